@@ -20,7 +20,7 @@ use Rattle.jsonld_subjects.specs.jsonld_values.ValueObjects.{has_member}
 use Rattle.jsonld_subjects.proofs.KeptNames.{ok_same, no_fault, made_is, followed_is}
 use Rattle.jrql_patterns.specs.OpenGroups.{OpenGroup, group_of, not_under}
 use Rattle.jrql_patterns.specs.QueryReading.{OpenQuery, empty_query, read_parts, is_variable_slot, has_variable, is_among, stands_in, standing_variables, misses_columns, fault_where, breaks_describe, breaks_rows, has_kind, breaks_select, breaks_where, breach, every_column, asked_of, query_of, query_under, context_said, query_said, json_of}
-use Rattle.jrql_patterns.specs.WhatIsMeant.{HasOneTarget, IsOfItsForm, LacksModifiers, HasVariable, StandsInGroup, HasColumnsInGroup, MeansQuery}
+use Rattle.jrql_patterns.specs.QueryMeaning.{HasOneTarget, IsOfItsForm, LacksModifiers, HasVariable, StandsInGroup, HasColumnsInGroup, MeansQuery}
 use Rattle.jrql_patterns.specs.declared.queries.ReadQuery.{ReadQuery}
 use Rattle.jrql_patterns.proofs.KeptQueries.{IsQueryKept, begins_kept, parts_read, columns_below, each_placed_all}
 

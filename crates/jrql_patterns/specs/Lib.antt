@@ -5,5 +5,5 @@ pub mod FilterReading
 pub mod WhereReading
 pub mod GroupsKept
 pub mod QueryReading
-pub mod WhatIsMeant
+pub mod QueryMeaning
 pub mod Marking

@@ -5,7 +5,7 @@ ghost use Rattle.serde_json.specs.View.{view, members_view};
 ghost use Rattle.jsonld_context.specs.Telling.{IsToldBy};
 ghost use Rattle.jrql_ast.specs.InForm.{IsQueryInForm};
 ghost use Rattle.jrql_patterns.specs.QueryReading.{query_under, query_said, query_read};
-ghost use Rattle.jrql_patterns.specs.WhatIsMeant.{MeansQuery};
+ghost use Rattle.jrql_patterns.specs.QueryMeaning.{MeansQuery};
 
 use crate::breaches::check_breaches;
 use crate::columns::standing;

@@ -22,7 +22,7 @@ use Rattle.jrql_patterns.proofs.KeptGroups.{where_read}
 use Rattle.jrql_patterns.proofs.MeantQueries.{nothing_told, neither_told, not_told, none_missed}
 use Rattle.jrql_patterns.proofs.NoFresh.{where_same}
 use Rattle.jrql_update.specs.UpdateReading.{OpenUpdate, empty_update, with_deletes, with_inserts, with_where, read_deleted, read_inserted, read_matched, read_clause, read_clauses, breaks_delete, breaks_insert, update_breach, plan_said, is_subject_alone, members_beside, update_under, update_said}
-use Rattle.jrql_update.specs.WhatIsMeant.{HasClause, missing_at, MeansUpdate}
+use Rattle.jrql_update.specs.UpdateMeaning.{HasClause, missing_at, MeansUpdate}
 
 -- ---- subjects of `@delete`
 

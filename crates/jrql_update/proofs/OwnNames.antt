@@ -10,7 +10,7 @@ use Rattle.jrql_ast.specs.FreshNames.{fresh_iri}
 use Rattle.jrql_ast.specs.QueryAnswers.{solution_limit}
 use Rattle.tree_clock.specs.Dot.{dot_text}
 use Rattle.tree_clock.specs.declared.dots.Dot.{Dot}
-use Rattle.jrql_update.specs.WhatIsMeant.{HaveOwnNames}
+use Rattle.jrql_update.specs.UpdateMeaning.{HaveOwnNames}
 
 -- a name ends in its number
 ends_in : (domain : List ℕ) (dot : Dot) (m n : ℕ) → fresh_iri domain dot m ≡ fresh_iri domain dot n → decimal m ≡ decimal n

@@ -6,7 +6,7 @@ ghost use Rattle.serde_json.specs.View.{view, members_view};
 ghost use Rattle.jsonld_context.specs.Telling.{IsToldBy};
 ghost use Rattle.jrql_ast.specs.InForm.{IsPlanInForm};
 ghost use Rattle.jrql_update.specs.UpdateReading.{plan_of_subject, members_beside, update_under, update_said, update_read};
-ghost use Rattle.jrql_update.specs.WhatIsMeant.{MeansUpdate};
+ghost use Rattle.jrql_update.specs.UpdateMeaning.{MeansUpdate};
 
 use crate::breaches::{check_breaches, is_subject_alone};
 use crate::clauses::read_clauses;

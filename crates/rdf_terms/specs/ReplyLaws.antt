@@ -7,12 +7,12 @@ use Rattle.std.proofs.lemmas.Cmp.{on_total, then_total, nat_cmp_total, int_cmp_t
 use Rattle.std.proofs.lemmas.Map.Lookups.{CmpEqualImpliesEq}
 use Rattle.rdf_terms.specs.declared.terms.Term.{Term}
 use Rattle.rdf_terms.specs.OrderLaws.{term_total, term_exact, both_equal}
-use Rattle.rdf_terms.specs.ReplyOrder.{reply_rank, reply_value, reply_cmp}
+use Rattle.rdf_terms.specs.ReplyOrder.{reply_rank, reply_number, reply_cmp}
 
 -- the order of replies is total
 pub reply_total : IsTotalOrder reply_cmp
 unfolding reply_cmp
-reply_total = then_total (on_total reply_rank nat_cmp_total) (then_total (on_total reply_value int_cmp_total) term_total)
+reply_total = then_total (on_total reply_rank nat_cmp_total) (then_total (on_total reply_number int_cmp_total) term_total)
 
 -- terms that compare alike are one
 pub reply_exact : CmpEqualImpliesEq reply_cmp

@@ -25,11 +25,11 @@ reply_rank (terms.Iri iri) = 2
 reply_rank (terms.Literal literal) = if is_some (literal_integer literal) then 0 else 1
 
 -- the value by which such literals are ordered; the others have none
-abbrev pub reply_value : Term → ℤ
-reply_value term = unwrap_or (integer_of term) (pos 0)
+abbrev pub reply_number : Term → ℤ
+reply_number term = unwrap_or (integer_of term) (pos 0)
 
 -- by rank, then by value, then in the order of terms
 unfoldable pub reply_cmp : Term → Term → Ordering
 reply_cmp a b =
     ordering_then (nat_cmp (reply_rank a) (reply_rank b))
-    (ordering_then (int_cmp (reply_value a) (reply_value b)) (term_cmp a b))
+    (ordering_then (int_cmp (reply_number a) (reply_number b)) (term_cmp a b))

@@ -1,8 +1,7 @@
 -- Lists that begin with another, and lexical forms written piece by piece.
 use Rattle.std.proofs.Common.{◌≡◌, ℕ, ◌+◌, ◌-◌, ◌<◌, ◌≤◌, List, [], ◌∷◌, ◌++◌, length, get_or, take, drop, refl, sym, ap, ◌∙◌, arith, append_assoc}
 use Rattle.std.proofs.lemmas.List.{take_more, append-nil, take-take, take-append-le, length-append, length-take-le, drop-append-le, length-take, drop-take, drop_all, take_all}
-use Rattle.text_rules.specs.KeptStart.{KeepsStart}
-use Rattle.text_rules.specs.Escaped.{escaped, escaped_byte}
+use Rattle.text_rules.specs.Escaped.{KeepsStart, escaped, escaped_byte}
 
 pub keeps_same : (old : List ℕ) → KeepsStart old old
 keeps_same [] = refl

@@ -1,5 +1,5 @@
--- Lexical forms as they are written between their quotes (N-Triples 1.1, canonical form).
-use Rattle.std.specs.Prelude.{ℕ, List, [], ◌∷◌, ◌++◌, ◌==◌, if◌then◌else◌, Bool, ◌||◌}
+-- Lexical forms as they are written between their quotes (N-Triples 1.1, canonical form), and what a buffer keeps to which they are appended.
+use Rattle.std.specs.Prelude.{◌≡◌, ℕ, List, [], ◌∷◌, ◌++◌, ◌==◌, if◌then◌else◌, Bool, ◌||◌, length, take}
 use Rattle.text_rules.specs.Marks.{line_feed, carriage_return, quote, backslash, small_n, small_r, apostrophe, small_b, small_f, small_t}
 
 -- a byte of a lexical form as it is written: `"`, `\`, LF and CR behind a backslash
@@ -29,3 +29,7 @@ letter_value letter =
     else (if letter == small_n then 10
     else (if letter == small_r then 13
     else (if letter == small_f then 12 else letter))))
+
+-- the new list begins with the old one
+abbrev pub KeepsStart : List ℕ → List ℕ → Type 0
+KeepsStart old new = take (length old) new ≡ old

@@ -14,4 +14,3 @@ pub mod CompareLaws
 pub mod TextForms
 pub mod Integers
 pub mod Spots
-pub mod KeptStart

@@ -2,8 +2,7 @@
 #![tactic(auto, using(std::proofs::lemmas::Grind::common_steps, crate::proofs::Appending::keeps_same, crate::proofs::Appending::keeps_more, crate::proofs::Appending::keeps_further))]
 
 ghost use Rattle.std.specs.Prelude.{◌≡◌, [], ◌∷◌, ◌++◌, OnOk, OnErr, MatchOption, false, true};
-ghost use Rattle.text_rules.specs.Escaped.{escaped, escaped_byte, is_escape_letter, letter_value};
-ghost use Rattle.text_rules.specs.KeptStart.{KeepsStart};
+ghost use Rattle.text_rules.specs.Escaped.{KeepsStart, escaped, escaped_byte, is_escape_letter, letter_value};
 ghost use Rattle.text_rules.specs.Marks.{backslash};
 
 use std::alloc::AllocError;

@@ -1,6 +1,5 @@
 use Rattle.std.proofs.Common.{◌≡◌, ◌≤◌, ◌++◌, drop, take}
-use Rattle.text_rules.specs.KeptStart.{KeepsStart}
-use Rattle.text_rules.specs.Escaped.{escaped}
+use Rattle.text_rules.specs.Escaped.{KeepsStart, escaped}
 use Rattle.text_rules.proofs.escaped.append_escaped.Given as goal
 
 -- what is written, with the piece that is not copied yet, is the front with its escapes

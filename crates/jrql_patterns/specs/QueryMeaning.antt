@@ -12,35 +12,35 @@ use Rattle.jsonld_subjects.specs.jsonld_values.ValueObjects.{has_member}
 use Rattle.jrql_patterns.specs.QueryReading.{json_of}
 
 -- an object has a member with this key, or lacks it
-abbrev pub Has : List ℕ → Members → Type 0
-Has key members = IsTrue (has_member key members)
+abbrev pub HasKey : List ℕ → Members → Type 0
+HasKey key members = IsTrue (has_member key members)
 
-abbrev pub Lacks : List ℕ → Members → Type 0
-Lacks key members = has_member key members ≡ false
+abbrev pub LacksKey : List ℕ → Members → Type 0
+LacksKey key members = has_member key members ≡ false
 
 -- ---- query forms (SPARQL 1.1 Query Language section 16, Query Forms)
 
 -- there is one of `@select` and `@describe`, and not both
 abbrev pub HasOneTarget : Members → Type 0
 HasOneTarget members =
-    (Has (codes "@select") members × Lacks (codes "@describe") members) ⊎ (Has (codes "@describe") members × Lacks (codes "@select") members)
+    (HasKey (codes "@select") members × LacksKey (codes "@describe") members) ⊎ (HasKey (codes "@describe") members × LacksKey (codes "@select") members)
 
 -- `@select` asks for rows, beside `@where` (section 16.1, SELECT); `@describe` for subjects (section 16.4, DESCRIBE)
 abbrev pub IsOfItsForm : Members → What → Type 0
-IsOfItsForm members (kinds.Select select) = Has (codes "@select") members × Has (codes "@where") members
-IsOfItsForm members (kinds.Describe targets) = Has (codes "@describe") members
+IsOfItsForm members (kinds.Select select) = HasKey (codes "@select") members × HasKey (codes "@where") members
+IsOfItsForm members (kinds.Describe targets) = HasKey (codes "@describe") members
 
 -- ---- solution modifiers (SPARQL 1.1 Query Language section 15, Solution Sequences and Modifiers)
 
 -- nothing says how rows are cut
 pub record LacksModifiers (members : Members) : Type 0 where
-  pub distinct : Lacks (codes "@distinct") members
-  pub offset : Lacks (codes "@offset") members
-  pub limit : Lacks (codes "@limit") members
+  pub distinct : LacksKey (codes "@distinct") members
+  pub offset : LacksKey (codes "@offset") members
+  pub limit : LacksKey (codes "@limit") members
 
 -- so it is beside `@describe`, which has no rows
 abbrev pub HasModifiersForRowsAlone : Members → Type 0
-HasModifiersForRowsAlone members = Has (codes "@describe") members → LacksModifiers members
+HasModifiersForRowsAlone members = HasKey (codes "@describe") members → LacksModifiers members
 
 -- ---- columns (SPARQL 1.1 Query Language sections 16.1.1, Projection, and 18.2.1, Variable Scope)
 

@@ -9,12 +9,12 @@ use Rattle.tree_clock.specs.declared.dots.Dot.{Dot}
 use Rattle.serde_json.specs.Data.{object, Members, no_members, member}
 use Rattle.jrql_patterns.specs.jsonld_subjects.OwnSubjects.{missing_ids}
 use Rattle.jrql_patterns.specs.QueryReading.{json_of}
-use Rattle.jrql_patterns.specs.WhatIsMeant.{Has}
+use Rattle.jrql_patterns.specs.QueryMeaning.{HasKey}
 use Rattle.jrql_update.specs.UpdateReading.{is_subject_alone, members_beside}
 
 -- something is deleted or inserted: by `@delete` or `@insert`, or the object is itself a subject to insert
 abbrev pub HasClause : Members → Type 0
-HasClause members = IsTrue (is_subject_alone members) ⊎ (Has (codes "@delete") members ⊎ Has (codes "@insert") members)
+HasClause members = IsTrue (is_subject_alone members) ⊎ (HasKey (codes "@delete") members ⊎ HasKey (codes "@insert") members)
 
 -- how many of the subjects under a key lack an id (JSON-LD 1.1 section 3.3, Node Identifiers)
 abbrev pub missing_at : List ℕ → Members → ℕ
@@ -23,7 +23,7 @@ missing_at key (member other value rest) = (if is_same other key then missing_id
 
 -- beside `@where` each subject of `@delete` has an id, so that no variable without a name stands in what is deleted
 abbrev pub DeletesByIds : Members → Type 0
-DeletesByIds members = Has (codes "@where") members → missing_at (codes "@delete") members ≡ 0
+DeletesByIds members = HasKey (codes "@where") members → missing_at (codes "@delete") members ≡ 0
 
 -- how many of the subjects that are inserted lack an id: the object's own, its context aside, or those under `@insert`
 abbrev pub missing_inserted : Members → ℕ
