@@ -101,7 +101,12 @@ fn plan_of(alloc: Global, triple: Triple, present: bool) -> Result<UpdatePlan, A
 }
 
 /// What a clone answers to the entry of a range that deletes and inserts nothing.
-pub fn receive<R: Threads + Sync>(clone: &mut TestClone, rt: &R, alloc: Global, range: Range) -> Word {
+pub fn receive<R: Threads + Sync>(
+    clone: &mut TestClone,
+    rt: &R,
+    alloc: Global,
+    range: Range,
+) -> Word {
     match bare_entry(alloc, range) {
         Some(entry) => word_of_got(clone.receive(rt, alloc, &Message::Range(entry))),
         None => Word::Other,
@@ -190,7 +195,11 @@ pub fn asker<R: Threads + Sync>(rt: &R, alloc: Global) -> Result<Box<TestAsker>,
 }
 
 /// One who asks for a leaf of the domain `d`, with these properties.
-fn asking<R: Threads + Sync>(rt: &R, alloc: Global, properties: Vec<Iri>) -> Result<Box<TestAsker>, Fail> {
+fn asking<R: Threads + Sync>(
+    rt: &R,
+    alloc: Global,
+    properties: Vec<Iri>,
+) -> Result<Box<TestAsker>, Fail> {
     let id = Uuid::from_u128(2);
     let asker = Asker::new(blank(rt, alloc)?, id, domain(alloc)?, properties);
     Ok(Box::new(alloc, asker)?)

@@ -66,7 +66,12 @@ fn is_mounted(mounted: &Mounted<MemoryBanks>) -> bool {
 }
 
 /// What comes of a mount of the banks of a clone, which stops before.
-fn mounting<R: Threads + Sync>(rt: &R, alloc: Global, begun: Box<Begun>, row: Row<'_>) -> Tried<String> {
+fn mounting<R: Threads + Sync>(
+    rt: &R,
+    alloc: Global,
+    begun: Box<Begun>,
+    row: Row<'_>,
+) -> Tried<String> {
     let mut banks = banks_of_begun(begun);
     banks.arm(row.calls, row.leave);
     let mounted = mounted(rt, alloc, banks)?;
@@ -118,7 +123,12 @@ fn stepping<R: Threads + Sync>(
 }
 
 /// What comes of a call that was done or refused, and left these banks.
-fn left_on<R: Threads + Sync>(rt: &R, alloc: Global, is_done: bool, banks: MemoryBanks) -> Tried<String> {
+fn left_on<R: Threads + Sync>(
+    rt: &R,
+    alloc: Global,
+    is_done: bool,
+    banks: MemoryBanks,
+) -> Tried<String> {
     let mut banks = banks;
     banks.revive();
     let found = found_on(rt, alloc, banks)?;

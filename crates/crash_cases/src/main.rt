@@ -38,7 +38,10 @@ fn main(rt: HostRuntime) -> io::Result<ExitCode> {
 }
 
 /// Runs the rows of a text. Gives how many there are, and how many of them differ, or are none.
-fn run_lines<R: Print + Threads + Sync + Alloc<A = Global>>(rt: &R, text: &str) -> io::Result<(u64, u64)> {
+fn run_lines<R: Print + Threads + Sync + Alloc<A = Global>>(
+    rt: &R,
+    text: &str,
+) -> io::Result<(u64, u64)> {
     let mut table = Table {
         made: "",
         call: "",

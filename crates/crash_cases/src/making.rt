@@ -118,7 +118,12 @@ fn adopted<R: Threads + Sync>(
 }
 
 /// One who asks, and is given a leaf by one who knows so many ticks.
-fn join<R: Threads + Sync>(rt: &R, alloc: Global, blank: Box<BlankBanks>, tick: u32) -> Tried<Box<Begun>> {
+fn join<R: Threads + Sync>(
+    rt: &R,
+    alloc: Global,
+    blank: Box<BlankBanks>,
+    tick: u32,
+) -> Tried<Box<Begun>> {
     let message = leaf(alloc, tick)?;
     let domain = domain(alloc)?;
     let adopted = adopted(rt, alloc, Box::into_inner(blank), domain, &message);

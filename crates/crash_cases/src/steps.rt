@@ -18,7 +18,12 @@ use std::thread::Threads;
 pub type TestClone = MldClone<MemoryBanks>;
 
 /// Does a step.
-pub fn do_step<R: Threads + Sync>(rt: &R, alloc: Global, clone: &mut TestClone, step: &str) -> Tried<()> {
+pub fn do_step<R: Threads + Sync>(
+    rt: &R,
+    alloc: Global,
+    clone: &mut TestClone,
+    step: &str,
+) -> Tried<()> {
     let (word, rest) = cut_word(step);
     match word {
         "add" => change(alloc, clone, rest, true),
@@ -72,7 +77,12 @@ fn updated(done: Result<Done, UpdateFault>) -> Tried<()> {
 }
 
 /// Hands a message to a clone.
-fn deliver<R: Threads + Sync>(rt: &R, alloc: Global, clone: &mut TestClone, message: &Message) -> Tried<()>
+fn deliver<R: Threads + Sync>(
+    rt: &R,
+    alloc: Global,
+    clone: &mut TestClone,
+    message: &Message,
+) -> Tried<()>
     requires { IsGoodMessage (message_value message.now) }
 {
     match clone.receive(rt, alloc, message) {
@@ -98,7 +108,12 @@ fn take<R: Threads + Sync>(rt: &R, alloc: Global, clone: &mut TestClone, ticks: 
 }
 
 /// Merges the snapshot of one who knows so many ticks.
-fn merge<R: Threads + Sync>(rt: &R, alloc: Global, clone: &mut TestClone, ticks: &str) -> Tried<()> {
+fn merge<R: Threads + Sync>(
+    rt: &R,
+    alloc: Global,
+    clone: &mut TestClone,
+    ticks: &str,
+) -> Tried<()> {
     let message = snapshot(alloc, number(ticks)?)?;
     deliver(rt, alloc, clone, &message)
 }

@@ -144,7 +144,12 @@ fn counts(alloc: Global, lines: usize, summary: &Summary) -> Result<String, Allo
 }
 
 /// The counts of a replay of the lines of a seed.
-fn replayed<R: Threads + Sync>(rt: &R, alloc: Global, seed: u64, n: u32) -> Result<String, AllocError> {
+fn replayed<R: Threads + Sync>(
+    rt: &R,
+    alloc: Global,
+    seed: u64,
+    n: u32,
+) -> Result<String, AllocError> {
     let lines = generate(alloc, seed, n)?;
     let text = text_of(alloc, &lines)?;
     let words = words(alloc, &["replay"])?;

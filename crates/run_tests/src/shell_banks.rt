@@ -70,7 +70,11 @@ fn failing_run<R: Threads + Sync>(
 }
 
 /// How many triples a clone has that opens on what these banks keep.
-fn shown_on<R: Threads + Sync>(rt: &R, alloc: Global, banks: &MemoryBanks) -> Result<usize, AllocError> {
+fn shown_on<R: Threads + Sync>(
+    rt: &R,
+    alloc: Global,
+    banks: &MemoryBanks,
+) -> Result<usize, AllocError> {
     let mut sink = Box::new(alloc, MemorySink::new(alloc, &[])?)?;
     show(rt, alloc, banks, &mut sink)?;
     Ok(count_of(sink.bytes(), b"r."))

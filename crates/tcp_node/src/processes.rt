@@ -23,7 +23,16 @@ const USAGE: u8 = 1;
 /// Runs a node over the words of the process, and gives its status. A status other than 0 is told
 /// on standard error.
 pub fn run_process<
-    R: Alloc<A = Global> + Clock + Clone + Drop + Env + Eprint + Files<File = File> + Net + Threads + Sync,
+    R: Alloc<A = Global>
+        + Clock
+        + Clone
+        + Drop
+        + Env
+        + Eprint
+        + Files<File = File>
+        + Net
+        + Threads
+        + Sync,
 >(rt: &R) -> u8 {
     let status = match run_on_words(rt) {
         Ok(status) => status,
