@@ -56,7 +56,7 @@ loop-reply-smaller g c =
     omega (arith, step.0, step.1)
 
 pub do_line-requires-clause-unarmed : goal.do_line-requires-clause-unarmed
-do_line-requires-clause-unarmed g c =
+do_line-requires-clause-unarmed g c = λ κs outlives.
     unarmed_later g.B.Banks.meter (banks_of_stage c.args.stage.now) (banks_of_stage c.loop-reply.stage) c.loop-reply.invariant.well.meters c.requires.unarmed
 
 -- ---- there was no room for lines

@@ -30,7 +30,7 @@ returns-in-Replay-clause-generated g c = λ seed count words.
 -- ---- a generated schedule
 
 pub run_generated-requires-clause-few : goal.run_generated-requires-clause-few
-run_generated-requires-clause-few g c = let said = rw c.in-Generate.is at c.read_words.ensures in said.few
+run_generated-requires-clause-few g c = λ κs outlives. let said = rw c.in-Generate.is at c.read_words.ensures in said.few
 
 pub returns-in-Generate-clause-usage : goal.returns-in-Generate-clause-usage
 returns-in-Generate-clause-usage g c =

@@ -45,7 +45,7 @@ returns-in-Err-clause-back g c =
 -- ---- no blanks could be made
 
 pub blanks_of-requires-clause-empty : goal.blanks_of-requires-clause-empty
-blanks_of-requires-clause-empty g c =
+blanks_of-requires-clause-empty g c = λ κs outlives.
     empty_still g.B.Banks.log c.args.banks.items c.find_filled.new.banks.items c.find_filled.ensures.meters.count c.find_filled.ensures.logs c.in_default.ensures.ok
 
 pub returns-in-Err-blanks_of-clause-untouched : goal.returns-in-Err-blanks_of-clause-untouched
@@ -86,7 +86,7 @@ returns-in-Err-blanks_of-clause-back g c =
 -- ---- the replay
 
 pub replay-requires-clause-unarmed : goal.replay-requires-clause-unarmed
-replay-requires-clause-unarmed g c =
+replay-requires-clause-unarmed g c = λ κs outlives.
     let well = well_then g.B.Banks.meter c.args.banks.items c.find_filled.new.banks.items c.in-Ok.blanks.items c.in_default.ensures.back c.in-Ok.ensures.well in
     unarmed_later g.B.Banks.meter c.args.banks.items c.in-Ok.blanks.items well.meters c.requires.1
 

@@ -13,7 +13,7 @@ use Rattle.net_world.proofs.founding.found_clones.Given as given
 use Rattle.net_world.proofs.founding.found_clones.Goals as goal
 
 pub found_each-requires-clause-absent : goal.found_each-requires-clause-absent
-found_each-requires-clause-absent g c =
+found_each-requires-clause-absent g c = λ κs outlives.
     all_absent (setup_of c.args.setup.now) c.args.blanks.items c.in-Ok.clones.items (omega (arith, c.requires.count)) (search rules)
 
 pub returns-in-Ok-found_each-clause-ok : goal.returns-in-Ok-found_each-clause-ok

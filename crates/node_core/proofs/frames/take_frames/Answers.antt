@@ -22,7 +22,7 @@ returns-in_default-clause-done g c =
     (c.take_at_hand.ensures.left ∙ same_without c.loop-frame.exchange none) (inr none)
 
 pub take_frame-requires-clause-good : goal.take_frame-requires-clause-good
-take_frame-requires-clause-good g c =
+take_frame-requires-clause-good g c = λ κs outlives.
     way_good g.B.Banks.log g.B.Banks.meter c.args.state c.args.frames.items c.args.exchange.now c.loop-frame.state c.loop-frame.exchange (into_iter_items c.loop-frame.frame-iterator) c.take_at_hand.result c.in-Some-take_at_hand.one c.loop-frame.invariant.way
     c.take_at_hand.ensures.taken c.in-Some-take_at_hand.is
 

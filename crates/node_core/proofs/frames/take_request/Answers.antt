@@ -12,7 +12,7 @@ returns-then-is_peer-clause-done g c =
     (λ sent. request_misplaced (keeper_of c.args.state) c.args.one (holding c.args.one c.args.exchange.now) c.misplace.new.exchange sent c.args.one.role c.args.line.now (sym c.is_peer.ensures ∙ c.if-is_peer.true))
 
 pub answer_request-requires-clause-at_hand : goal.answer_request-requires-clause-at_hand
-answer_request-requires-clause-at_hand g c = (c.args.one, ap (λ (e : ExchangeValue). e.at_hand) c.hold.ensures)
+answer_request-requires-clause-at_hand g c = λ κs outlives. (c.args.one, ap (λ (e : ExchangeValue). e.at_hand) c.hold.ensures)
 
 pub returns-clause-done : goal.returns-clause-done
 returns-clause-done g c =

@@ -4,14 +4,14 @@ use Rattle.node_core.proofs.PieceLaws.{read_answered, read_none, forget_well, st
 use Rattle.node_core.proofs.nodes.read.Goals as goal
 
 pub take_piece-requires-clause-good : goal.take_piece-requires-clause-good
-take_piece-requires-clause-good g c =
+take_piece-requires-clause-good g c = λ κs outlives.
     good_found c.args.number c.args.connections.items c.in-Some.one c.requires.well.good (sym c.take_connection.ensures.found ∙ c.in-Some.is)
 
 pub take_piece-requires-clause-others : goal.take_piece-requires-clause-others
-take_piece-requires-clause-others g c = forget_well c.args.number c.args.connections.items c.take_connection.new.list.items c.take_connection.ensures.left c.requires.well
+take_piece-requires-clause-others g c = λ κs outlives. forget_well c.args.number c.args.connections.items c.take_connection.new.list.items c.take_connection.ensures.left c.requires.well
 
 pub take_piece-requires-clause-apart : goal.take_piece-requires-clause-apart
-take_piece-requires-clause-apart g c =
+take_piece-requires-clause-apart g c = λ κs outlives.
     still_apart c.args.number c.args.connections.items c.take_connection.new.list.items c.in-Some.one (sym c.take_connection.ensures.found ∙ c.in-Some.is) (c.take_connection.ensures.numbered c.requires.well.numbered)
 
 pub returns-in-Some-clause-done : goal.returns-in-Some-clause-done

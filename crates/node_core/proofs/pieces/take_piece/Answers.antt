@@ -6,7 +6,7 @@ use Rattle.node_core.proofs.QuietLaws.{stops_none}
 use Rattle.node_core.proofs.pieces.take_piece.Goals as goal
 
 pub take_fed-requires-clause-goes_on : goal.take_fed-requires-clause-goes_on
-take_fed-requires-clause-goes_on g c =
+take_fed-requires-clause-goes_on g c = λ κs outlives.
     piece_may g.B.Banks.log c.args.state c.args.one c.args.others.items c.args.piece.now c.feed.new.self c.in-Ok.fed c.new.result c.new.ensures c.requires.good c.requires.others c.requires.apart c.in-Ok.ensures.good
 
 pub returns-in-Err-clause-stopped : goal.returns-in-Err-clause-stopped

@@ -91,7 +91,7 @@ pub overflow_add-taken : goal.overflow_add-taken
 overflow_add-taken g c = omega (arith, below c.loop-alloc.taken c.args.turns c.loop-alloc.invariant.few c.if-taken-turns.false)
 
 pub take_event-requires-clause-opened : goal.take_event-requires-clause-opened
-take_event-requires-clause-opened g c = c.loop-alloc.invariant.opened
+take_event-requires-clause-opened g c = λ κs outlives. c.loop-alloc.invariant.opened
 
 pub returns-in-Err-take_event-clause-turns : goal.returns-in-Err-take_event-clause-turns
 returns-in-Err-take_event-clause-turns g c =

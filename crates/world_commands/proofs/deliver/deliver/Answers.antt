@@ -27,7 +27,7 @@ returns-in_default g c = record {
 }
 
 pub receive_at-requires-clause-fit : goal.receive_at-requires-clause-fit
-receive_at-requires-clause-fit g c =
+receive_at-requires-clause-fit g c = λ κs outlives.
     is_fit g.B.Banks.log c.args.parts.now c.args.message c.args.number c.in-Some.message.now c.requires.left
     (sym (c.in-Some.ensures ∙ ap (λ (ms : List Message). numbered ms c.args.message) c.as_slice.ensures.value))
 

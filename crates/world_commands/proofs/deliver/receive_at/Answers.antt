@@ -14,18 +14,8 @@ use Rattle.world_commands.proofs.DeliverLemmas.{away_reply, away_carried}
 use Rattle.world_commands.proofs.LeftLemmas.{left_becomes, left_same, away_idle}
 use Rattle.world_commands.proofs.deliver.receive_at.Goals as goal
 
-pub receive_live-requires : goal.receive_live-requires
-receive_live-requires g c =
-    let at = place_read c.args.clones.now.items c.args.number c.from.result c.index_mut.result.now (states.Live c.in-Live.clone) c.from.ensures (omega (arith, c.requires.number)) c.index_mut.ensures.value c.in-Live.is in
-    record {
-      own = c.requires.fit.own c.in-Live.clone at;
-      opened = c.requires.fit.opened c.in-Live.clone at;
-      left = c.requires.fit.left c.in-Live.clone at;
-      good = c.requires.fit.good;
-    }
-
 pub receive_asking-requires-clause-asks : goal.receive_asking-requires-clause-asks
-receive_asking-requires-clause-asks g c =
+receive_asking-requires-clause-asks g c = λ κs outlives.
     let P : List (BankedState g.row.B.Denot) → Type 0 = λ clones. HasState clones c.args.number (states.Asking c.in-Asking.field-0) in
     (c.in-Asking.field-0, subst P (sym (read_back c.args.clones.now.items c.from.result c.index_mut.result.now c.index_mut.ensures.value)) (place_read c.args.clones.now.items c.args.number c.from.result c.index_mut.result.now (states.Asking c.in-Asking.field-0) c.from.ensures (omega (arith, c.requires.number)) c.index_mut.ensures.value c.in-Asking.is))
 

@@ -13,15 +13,11 @@ use Rattle.world_commands.proofs.WorldLemmas.{keeps_banks, keeps_still}
 use Rattle.world_commands.proofs.LeftLemmas.{refused_undone, left_still, left_there, standing_idle, silent_same}
 use Rattle.world_commands.proofs.opening.open.Goals as goal
 
-pub open_banks-requires : goal.open_banks-requires
-open_banks-requires g c =
+pub open_banks-requires-clause-whole : goal.open_banks-requires-clause-whole
+open_banks-requires-clause-whole g c = λ κs outlives.
     let parts = c.args.parts.now in
-    let P : List ℕ → Type 0 = λ domain. IsTrue (is_domain domain) in
-    record {
-      name = subst P (sym c.in_ok-named-in-Down.ensures.domain) c.requires.named.name;
-      whole = whole_at g.B.Banks.log parts c.args.number c.in-Down.field-0 c.requires.left
-          (place_read parts.clones.items c.args.number c.from.result c.index.result.now (states.Down c.in-Down.field-0) c.from.ensures (omega (arith, c.requires.number)) c.index.ensures c.in-Down.is);
-    }
+    whole_at g.B.Banks.log parts c.args.number c.in-Down.field-0 c.requires.left
+    (place_read parts.clones.items c.args.number c.from.result c.index.result.now (states.Down c.in-Down.field-0) c.from.ensures (omega (arith, c.requires.number)) c.index.ensures c.in-Down.is)
 
 pub returns-in_ok-named-in-Down : goal.returns-in_ok-named-in-Down
 returns-in_ok-named-in-Down g c =
