@@ -9,7 +9,7 @@ use Rattle.net_world.proofs.founding.join.Goals as goal
 
 pub taken_leaf-requires : goal.taken_leaf-requires
 taken_leaf-requires g c =
-    (give_value c.in-Ok.ensures.gives.0, gives_leaf c.args.asker.asker c.args.first.now.local c.given_leaf.new.first.local c.in-Ok.answer c.in-Ok.ensures.gives c.in-Ok.ensures.good)
+    (c.type_bounds.sync-R, (give_value c.in-Ok.ensures.gives.0, gives_leaf c.args.asker.asker c.args.first.now.local c.given_leaf.new.first.local c.in-Ok.answer c.in-Ok.ensures.gives c.in-Ok.ensures.good))
 
 pub returns-in-Ok : goal.returns-in-Ok
 returns-in-Ok g c = record {
