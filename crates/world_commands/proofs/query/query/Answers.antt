@@ -8,6 +8,11 @@ use Rattle.world_commands.proofs.LookLemmas.{query_done, query_missing_done}
 use Rattle.world_commands.proofs.WorldLemmas.{is_open}
 use Rattle.world_commands.proofs.query.query.Goals as goal
 
+pub answer_live-requires : goal.answer_live-requires
+answer_live-requires g c =
+    let P : List (BankedState g.row.B.Denot) → Type 0 = λ clones. HasState clones c.args.number (states.Live c.in-Ok.clone.now) in
+    (c.type_bounds.sync-R, (is_open g.B.Banks.log c.args.parts.now c.args.number c.in-Ok.clone.now c.requires.left (subst P c.as_slice.ensures.value c.in-Ok.ensures), c.requires.form))
+
 pub returns-in-Ok : goal.returns-in-Ok
 returns-in-Ok g c =
     let P : List (BankedState g.row.B.Denot) → Type 0 = λ clones. HasState clones c.args.number (states.Live c.in-Ok.clone.now) in
