@@ -6,7 +6,7 @@ use Rattle.node_model.specs.RefusalCodes.{bad_frame_code, misplaced_code}
 use Rattle.node_model.specs.Keepers.{keeper_found}
 use Rattle.node_core.specs.NodeEvents.{IsDueByFrame}
 use Rattle.node_core.proofs.KindLaws.{keeps_all, quiet_done, part_none, part_waits, part_is_bad, message_answered, message_refused}
-use Rattle.node_core.proofs.QuietLaws.{quiet_stops, stops_none}
+use Rattle.node_core.proofs.QuietLaws.{quiet_stops, quiet_told, stops_none}
 use Rattle.node_core.proofs.frames.take_part.Goals as goal
 
 pub returns-in-None-clause-done : goal.returns-in-None-clause-done
@@ -43,3 +43,6 @@ returns-in-Some-Err-BadPart-clause-stopped g c =
 pub returns-in-Some-Err-NoMemory-clause-stopped : goal.returns-in-Some-Err-NoMemory-clause-stopped
 returns-in-Some-Err-NoMemory-clause-stopped g c =
     stops_none (IsDueByFrame (keeper_of c.args.state) c.args.one.role (kinds.Part c.args.number c.args.index c.args.count c.args.piece)) g.B.Banks.log (keeper_found (keeper_of c.args.state)) (state_banks c.args.state) c.into_banks.result c.into_banks.ensures.banks
+
+pub returns-in-Some-Err-BadPart-clause-told : goal.returns-in-Some-Err-BadPart-clause-told
+returns-in-Some-Err-BadPart-clause-told g c = quiet_told g.B.Banks.log g.B.Banks.meter c.args.state c.refuse-in-Some-Err-BadPart.result c.refuse-in-Some-Err-BadPart.ensures.same c.refuse-in-Some-Err-BadPart.ensures.err
