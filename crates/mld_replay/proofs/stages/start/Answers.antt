@@ -8,7 +8,7 @@ use Rattle.mld_replay.proofs.StoppedLemmas.{started_left, due_by}
 use Rattle.mld_replay.proofs.stages.start.Goals as goal
 
 pub step-done-requires-clause-unarmed : goal.step-done-requires-clause-unarmed
-step-done-requires-clause-unarmed g c =
+step-done-requires-clause-unarmed g c = λ κs outlives.
     unarmed_later g.B.Banks.meter (banks_of_stage c.args.stage.now) (banks_of c.in_ok-world.world) c.in_ok-world.ensures.well.meters c.requires.unarmed
 
 pub returns-clause-ok : goal.returns-clause-ok

@@ -16,7 +16,7 @@ returns-then-not-is_armed-clause-done g c =
     (λ armed. absurd (cc (c.is_armed.ensures.1 armed, c.if-not-is_armed.true))) c.do_task.ensures.done
 
 pub do_task-done-requires-clause-left : goal.do_task-done-requires-clause-left
-do_task-done-requires-clause-left g c =
+do_task-done-requires-clause-left g c = λ κs outlives.
     mid_left g.B.Banks.log g.B.Banks.meter c.args.call c.args.leave c.number_of-number.result c.args.parts.now _ refl c.arm_at.ensures c.requires.left
 
 pub returns-clause-keeps : goal.returns-clause-keeps

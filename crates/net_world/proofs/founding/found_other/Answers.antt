@@ -26,7 +26,7 @@ join_first-state-requires g c =
     let giver = giver_there (setup_of c.args.setup.now) c.args.number old c.new_asker-asker.result.asker c.requires.some c.requires.below c.requires.setup c.new_asker-asker.ensures.asker.id c.requires.founded in
     let inside = slice_get_within old c.args.number (kinds.Absent c.take_blank-blank.result) taken.was in
     let counted : length left + 1 ≡ length old = omega (arith, taken.len) in
-    (giver.0, first_stays old left c.args.number (kinds.Absent c.take_blank-blank.result) c.requires.some inside counted (taken.back (kinds.Absent c.take_blank-blank.result)) ∙ giver.1, giver.2)
+    (c.type_bounds.sync-R, (giver.0, first_stays old left c.args.number (kinds.Absent c.take_blank-blank.result) c.requires.some inside counted (taken.back (kinds.Absent c.take_blank-blank.result)) ∙ giver.1, giver.2))
 
 module _ (g : given.Over) (c : goal.After-put_state g) where
   abbrev state : BankedState g.row.B.Denot
