@@ -11,10 +11,11 @@ loop-one-init g c = record {
 }
 
 pub blank_of-requires : goal.blank_of-requires
-blank_of-requires g c =
-    (c.type_bounds.sync-R,
-    blanking_next g.B.Banks.log g.B.Banks.meter c.args.banks.items c.loop-one.blanks.items c.loop-one.rest.items c.pop_front.new.self.items c.in-Some.one c.loop-one.number c.loop-one.invariant.blanking
-    c.in-Some.ensures.items)
+blank_of-requires g c = (
+  c.type_bounds.sync-R,
+  blanking_next g.B.Banks.log g.B.Banks.meter c.args.banks.items c.loop-one.blanks.items c.loop-one.rest.items c.pop_front.new.self.items c.in-Some.one c.loop-one.number c.loop-one.invariant.blanking
+      c.in-Some.ensures.items,
+)
 
 pub returns-in-Err-Some-clause-err : goal.returns-in-Err-Some-clause-err
 returns-in-Err-Some-clause-err g c =
