@@ -1,5 +1,6 @@
 //! The device over files.
-use mld_io::{Banks, FileBanks, IoFault, Side};
+use crate::made::{boxed, is_failed};
+use mld_io::{Banks, FileBanks, Side};
 use std::alloc::{AllocError, Global};
 use std::fs::{self, File, Files};
 use std::test::Fail;
@@ -7,84 +8,127 @@ use std::test::Fail;
 const FOLDER: &str = "clone";
 
 /// A device over the files of this folder.
-fn boxed<R: Files<File = File> + Drop>(
+fn banks_in<R: Files<File = File> + Drop>(
     rt: R,
     alloc: Global,
     folder: &str,
 ) -> Result<Box<FileBanks<R>>, AllocError> {
-    Ok(Box::new(alloc, FileBanks::new(rt, alloc, folder)?)?)
+    boxed(alloc, FileBanks::new(rt, alloc, folder)?)
 }
 
-/// Whether both sides are without bytes, and take these with a sync.
+/// Whether the sides have so many bytes.
+fn have_sizes<R: Files<File = File> + Drop>(banks: &mut FileBanks<R>, a: u64, b: u64) -> bool {
+    matches!(banks.len(Side::A), Ok(size) if size == a)
+        && matches!(banks.len(Side::B), Ok(size) if size == b)
+}
+
+/// What is written: the side, the place, and the piece.
+const WRITES: &[(Side, u64, &[u8])] = &[
+    (Side::A, 0, b"abcdefg"),
+    (Side::B, 0, b"vw"),
+    (Side::A, 2, b"CDE"),
+    (Side::B, 2, b"xyz"),
+];
+
+/// Whether both sides are without bytes, take these with a sync, and take none past the last place.
 fn takes<R: Files<File = File> + Drop>(banks: &mut FileBanks<R>) -> bool {
-    banks.len(Side::A) == Ok(0)
-        && banks.len(Side::B) == Ok(0)
-        && banks.write_at(Side::A, 0, b"abcdefg") == Ok(())
-        && banks.write_at(Side::B, 0, b"vw") == Ok(())
-        && banks.write_at(Side::A, 2, b"CDE") == Ok(())
-        && banks.write_at(Side::B, 2, b"xyz") == Ok(())
-        && banks.sync(Side::A) == Ok(())
-        && banks.sync(Side::B) == Ok(())
+    if !have_sizes(banks, 0, 0) {
+        return false;
+    }
+    for (side, place, piece) in WRITES {
+        if banks.write_at(*side, *place, piece).is_err() {
+            return false;
+        }
+    }
+    banks.sync(Side::A).is_ok()
+        && banks.sync(Side::B).is_ok()
+        && is_failed(banks.write_at(Side::A, u64::MAX, b"a"))
 }
 
 /// Whether both sides have the bytes that were written, and nothing is read past their end.
 fn has<R: Files<File = File> + Drop>(banks: &mut FileBanks<R>) -> bool {
     let (mut a, mut b, mut past) = ([0; 5], [0; 5], [0; 2]);
-    banks.len(Side::A) == Ok(7)
-        && banks.len(Side::B) == Ok(5)
-        && banks.read_at(Side::A, 1, &mut a) == Ok(())
+    have_sizes(banks, 7, 5)
+        && banks.read_at(Side::A, 1, &mut a).is_ok()
         && a == *b"bCDEf"
-        && banks.read_at(Side::B, 0, &mut b) == Ok(())
+        && banks.read_at(Side::B, 0, &mut b).is_ok()
         && b == *b"vwxyz"
-        && banks.read_at(Side::B, 4, &mut past) == Err(IoFault::Failed)
+        && is_failed(banks.read_at(Side::B, 4, &mut past))
 }
 
 /// Whether each call fails.
 fn fails<R: Files<File = File> + Drop>(banks: &mut FileBanks<R>) -> bool {
-    banks.len(Side::A) == Err(IoFault::Failed)
-        && banks.read_at(Side::B, 0, &mut []) == Err(IoFault::Failed)
-        && banks.write_at(Side::A, 0, b"a") == Err(IoFault::Failed)
-        && banks.sync(Side::B) == Err(IoFault::Failed)
+    is_failed(banks.len(Side::A))
+        && is_failed(banks.read_at(Side::B, 0, &mut []))
+        && is_failed(banks.write_at(Side::A, 0, b"a"))
+        && is_failed(banks.sync(Side::B))
+}
+
+/// Whether the folder isn't there.
+fn is_missing<R: Files<File = File>>(rt: &R) -> bool {
+    matches!(fs::exists(rt, FOLDER), Ok(false))
+}
+
+/// Whether a device over a folder that isn't there makes none before a call, and takes bytes.
+fn are_taken<R: Files<File = File> + Copy + Drop>(
+    rt: R,
+    alloc: Global,
+) -> Result<bool, AllocError> {
+    let mut banks = banks_in(rt, alloc, FOLDER)?;
+    Ok(is_missing(&rt) && takes(&mut banks))
+}
+
+/// Whether a device over that folder has the bytes.
+fn are_kept<R: Files<File = File> + Drop>(rt: R, alloc: Global) -> Result<bool, AllocError> {
+    let mut banks = banks_in(rt, alloc, FOLDER)?;
+    Ok(has(&mut banks))
 }
 
 #[test]
 fn files_keep_what_a_bank_was_given(rt: HostRuntime) -> Result<(), Fail> {
     let _ = fs::remove_dir_all(&rt, FOLDER);
-    let alloc = rt.alloc();
-    let mut banks = boxed(rt, alloc, FOLDER)?;
-    assert!(rt; !fs::exists(&rt, FOLDER)?);
-    assert!(rt; takes(&mut banks));
-    assert!(rt; banks.write_at(Side::A, u64::MAX, b"a") == Err(IoFault::Failed));
-    drop(banks);
-    let mut banks = boxed(rt, alloc, FOLDER)?;
-    assert!(rt; has(&mut banks));
-    drop(banks);
+    assert!(rt; are_taken(rt, rt.alloc())?);
+    assert!(rt; are_kept(rt, rt.alloc())?);
     fs::remove_dir_all(&rt, FOLDER)?;
     Ok(())
+}
+
+/// Whether a second device over a folder is refused while the first is open, and not afterwards.
+fn are_open_in_turn<R: Files<File = File> + Copy + Drop>(
+    rt: R,
+    alloc: Global,
+    folder: &str,
+) -> Result<bool, AllocError> {
+    let mut first = banks_in(rt, alloc, folder)?;
+    let opened = matches!(first.len(Side::A), Ok(0));
+    let mut second = banks_in(rt, alloc, folder)?;
+    let refused = fails(&mut second);
+    drop(first);
+    Ok(opened && refused && matches!(second.len(Side::B), Ok(0)))
 }
 
 #[test]
 fn one_bank_at_a_time_has_a_folder(rt: HostRuntime) -> Result<(), Fail> {
     let _ = fs::remove_dir_all(&rt, "shared");
-    let alloc = rt.alloc();
-    let mut first = boxed(rt, alloc, "shared")?;
-    assert!(rt; first.len(Side::A) == Ok(0));
-    let mut second = boxed(rt, alloc, "shared")?;
-    assert!(rt; fails(&mut second));
-    drop(first);
-    assert!(rt; second.len(Side::B) == Ok(0));
-    drop(second);
+    assert!(rt; are_open_in_turn(rt, rt.alloc(), "shared")?);
     fs::remove_dir_all(&rt, "shared")?;
     Ok(())
 }
 
+/// Whether each call of a device over this folder fails.
+fn fails_in<R: Files<File = File> + Drop>(
+    rt: R,
+    alloc: Global,
+    folder: &str,
+) -> Result<bool, AllocError> {
+    let mut banks = banks_in(rt, alloc, folder)?;
+    Ok(fails(&mut banks))
+}
+
 #[test]
 fn no_folder_keeps_no_bank(rt: HostRuntime) -> Result<(), Fail> {
-    let alloc = rt.alloc();
-    let mut banks = boxed(rt, alloc, "")?;
-    assert!(rt; fails(&mut banks));
+    assert!(rt; fails_in(rt, rt.alloc(), "")?);
     // No folder is made in one that isn't there.
-    let mut banks = boxed(rt, alloc, "missing/clone")?;
-    assert!(rt; fails(&mut banks));
+    assert!(rt; fails_in(rt, rt.alloc(), "missing/clone")?);
     Ok(())
 }

@@ -19,4 +19,6 @@ mod frames_written;
 #[cfg(test)]
 mod lines;
 #[cfg(test)]
+mod made;
+#[cfg(test)]
 mod wires;

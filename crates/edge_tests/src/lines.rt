@@ -1,4 +1,5 @@
 //! Lines, sources and sinks, tried by fakes.
+use crate::made::boxed;
 use mld_io::{
     IoFault, LineFault, Lines, MemorySink, MemorySource, Piece, Sink, Source, StdSink, StdSource,
     WriteFault, write_all,
@@ -8,16 +9,21 @@ use std::io;
 use std::io::Read;
 use std::test::Fail;
 
+/// Whether a reader of lines gave this line, or told the end where none is wanted.
+fn is_line(next: &Result<Option<Piece>, LineFault>, wanted: Option<&[u8]>) -> bool {
+    match next {
+        Ok(Some(line)) => wanted == Some(line.as_slice()),
+        Ok(None) => wanted.is_none(),
+        Err(_) => false,
+    }
+}
+
 /// Whether the next line is this one, or there is none.
 fn is_next<S: Source>(lines: &mut Lines, source: &mut S, wanted: Option<&[u8]>) -> bool {
     if !lines.is_good() {
         return false;
     }
-    match lines.next(source) {
-        Ok(Some(line)) => wanted == Some(line.as_slice()),
-        Ok(None) => wanted.is_none(),
-        Err(_) => false,
-    }
+    is_line(&lines.next(source), wanted)
 }
 
 /// Whether there is no next line for this fault.
@@ -25,10 +31,8 @@ fn stops<S: Source>(lines: &mut Lines, source: &mut S, wanted: LineFault) -> boo
     if !lines.is_good() {
         return false;
     }
-    match lines.next(source) {
-        Ok(_) => false,
-        Err(fault) => fault == wanted && !lines.is_good(),
-    }
+    let told = matches!(&lines.next(source), Err(fault) if *fault == wanted);
+    told && !lines.is_good()
 }
 
 /// Whether these are the lines, and behind them is the end, also when asked again, or this fault.
@@ -49,8 +53,17 @@ fn are_lines<S: Source>(
     }
 }
 
-// The bytes of a source and the call that fails; the limits of a line and of the input; the lines, and the fault behind them.
-const READS: [(&[u8], u64, usize, u64, &[&[u8]], Option<LineFault>); 6] = [
+/// The bytes of a source and the call that fails; the limits of a line and of the input; the lines, and the fault behind them.
+type Reading = (
+    &'static [u8],
+    u64,
+    usize,
+    u64,
+    &'static [&'static [u8]],
+    Option<LineFault>,
+);
+
+const READINGS: &[Reading] = &[
     (b"a\r\n\nb", 100, 2, 5, &[b"a\r", b"", b"b"], None),
     // Calls 0 and 1 give bytes, call 2 the end, and no call comes behind it.
     (b"ab", 3, 10, 10, &[b"ab"], None),
@@ -62,15 +75,25 @@ const READS: [(&[u8], u64, usize, u64, &[&[u8]], Option<LineFault>); 6] = [
     (b"abc\n", 100, 3, 3, &[], Some(LineFault::TooLarge)),
 ];
 
+/// A reader of lines, with these limits of a line and of the input.
+fn reader(alloc: Global, line: usize, all: u64) -> Result<Box<Lines>, AllocError> {
+    boxed(alloc, Lines::new(alloc, line, all)?)
+}
+
+/// Whether a source of these bytes is read so.
+fn is_read_so(
+    alloc: Global,
+    (bytes, failing, line, all, wanted, fault): Reading,
+) -> Result<bool, AllocError> {
+    let mut lines = reader(alloc, line, all)?;
+    let mut source = boxed(alloc, MemorySource::new(alloc, bytes, &[failing])?)?;
+    Ok(are_lines(&mut lines, &mut *source, wanted, fault))
+}
+
 #[test]
 fn lines_are_read_up_to_the_end_or_a_fault(rt: HostRuntime) -> Result<(), Fail> {
-    for (bytes, failing, line, all, wanted, fault) in READS {
-        let mut source = Box::new(
-            rt.alloc(),
-            MemorySource::new(rt.alloc(), bytes, &[failing])?,
-        )?;
-        let mut lines = Box::new(rt.alloc(), Lines::new(rt.alloc(), line, all)?)?;
-        assert!(rt; are_lines(&mut *lines, &mut *source, wanted, fault));
+    for reading in READINGS {
+        assert!(rt; is_read_so(rt.alloc(), *reading)?);
     }
     Ok(())
 }
@@ -85,20 +108,24 @@ impl Read for Broken {
     }
 }
 
+/// Whether the lines of a reader of the standard library are read.
+fn reads_lines(alloc: Global) -> Result<bool, AllocError> {
+    let mut lines = reader(alloc, 10, 10)?;
+    let mut source = StdSource::new(b"x\ny".as_slice());
+    Ok(is_next(&mut lines, &mut source, Some(b"x")) && is_next(&mut lines, &mut source, Some(b"y")))
+}
+
+/// Whether there is no line of a reader that fails.
+fn stops_at_once(alloc: Global) -> Result<bool, AllocError> {
+    let mut lines = reader(alloc, 10, 10)?;
+    let mut source = StdSource::new(Broken);
+    Ok(stops(&mut lines, &mut source, LineFault::ReadFault))
+}
+
 #[test]
 fn readers_of_std_are_sources(rt: HostRuntime) -> Result<(), Fail> {
-    let mut lines = Box::new(rt.alloc(), Lines::new(rt.alloc(), 10, 10)?)?;
-    let mut source = StdSource::new(b"x\ny".as_slice());
-    assert!(rt; is_next(&mut lines, &mut source, Some(b"x")));
-    assert!(rt; is_next(&mut lines, &mut source, Some(b"y")));
-    let mut lines = Box::new(rt.alloc(), Lines::new(rt.alloc(), 10, 10)?)?;
-    assert!(rt;
-        stops(
-            &mut lines,
-            &mut StdSource::new(Broken),
-            LineFault::ReadFault
-        )
-    );
+    assert!(rt; reads_lines(rt.alloc())?);
+    assert!(rt; stops_at_once(rt.alloc())?);
     Ok(())
 }
 
@@ -136,15 +163,29 @@ fn gives<S: Source>(source: &mut S, wanted: Option<&[u8]>) -> bool {
     }
 }
 
+// What the reader gives behind its first line, where it fails once.
+const BEHIND: &[Option<&[u8]>] = &[Some(b"b"), None, Some(b"cd\n"), Some(b"")];
+
+/// Whether a source gives these pieces, or fails.
+fn gives_each<S: Source>(source: &mut S, wanted: &[Option<&[u8]>]) -> bool {
+    for piece in wanted {
+        if !gives(source, *piece) {
+            return false;
+        }
+    }
+    true
+}
+
+/// Whether a line is read from the reader, and then what is behind it.
+fn reads_ahead(alloc: Global) -> Result<bool, AllocError> {
+    let mut lines = reader(alloc, 10, 10)?;
+    let mut source = StdSource::new(Pieces { reads: 0 });
+    Ok(is_next(&mut lines, &mut source, Some(b"a")) && gives_each(&mut source, BEHIND))
+}
+
 #[test]
 fn what_was_read_ahead_is_given_before_a_reader_is_read_again(rt: HostRuntime) -> Result<(), Fail> {
-    let mut lines = Box::new(rt.alloc(), Lines::new(rt.alloc(), 10, 10)?)?;
-    let mut source = StdSource::new(Pieces { reads: 0 });
-    assert!(rt; is_next(&mut lines, &mut source, Some(b"a")));
-    let wanted: [Option<&[u8]>; 4] = [Some(b"b"), None, Some(b"cd\n"), Some(b"")];
-    for piece in wanted {
-        assert!(rt; gives(&mut source, piece));
-    }
+    assert!(rt; reads_ahead(rt.alloc())?);
     Ok(())
 }
 
@@ -169,38 +210,49 @@ impl Sink for Short {
 
 /// Whether the sink takes a piece, and fails at another.
 fn takes_one<K: Sink>(sink: &mut K, piece: &[u8], refused: &[u8]) -> bool {
-    write_all(sink, b"") == Ok(())
-        && write_all(sink, piece) == Ok(())
-        && write_all(sink, refused) == Err(WriteFault::Failed)
+    write_all(sink, b"").is_ok()
+        && write_all(sink, piece).is_ok()
+        && matches!(write_all(sink, refused), Err(WriteFault::Failed))
 }
 
 /// Whether a sink takes a piece by one call, and fails at its second one.
 fn takes_whole(alloc: Global) -> Result<bool, AllocError> {
-    let mut sink = Box::new(alloc, MemorySink::new(alloc, &[1])?)?;
+    let mut sink = boxed(alloc, MemorySink::new(alloc, &[1])?)?;
     Ok(takes_one(&mut *sink, b"one piece", b"x") && sink.bytes() == b"one piece".as_slice())
 }
 
 /// Whether a sink takes pieces in parts, and fails at its fourth call.
 fn takes_parts(alloc: Global) -> Result<bool, AllocError> {
     let inner = MemorySink::new(alloc, &[3])?;
-    let mut sink = Box::new(alloc, Short { inner })?;
+    let mut sink = boxed(alloc, Short { inner })?;
     Ok(takes_one(&mut *sink, b"abc", b"defgh") && sink.inner.bytes() == b"abcde".as_slice())
+}
+
+/// Whether a writer of the standard library takes pieces until it is full.
+fn takes_until_full() -> bool {
+    let mut room = [0u8; 3];
+    let taken = takes_one(&mut StdSink::new(room.as_mut_slice()), b"ab", b"cd");
+    taken && room == *b"abc"
 }
 
 #[test]
 fn sinks_take_pieces_and_fail(rt: HostRuntime) -> Result<(), Fail> {
     assert!(rt; takes_whole(rt.alloc())?);
     assert!(rt; takes_parts(rt.alloc())?);
-    let mut room = [0u8; 3];
-    assert!(rt; takes_one(&mut StdSink::new(room.as_mut_slice()), b"ab", b"cd"));
-    assert!(rt; room == *b"abc");
+    assert!(rt; takes_until_full());
     Ok(())
+}
+
+/// Whether a piece tells its length, and has its bytes.
+fn has_bytes(alloc: Global) -> Result<bool, AllocError> {
+    let piece = Piece::copy_in(alloc, b"abc")?;
+    let sized = piece.len() == 3 && !piece.is_empty();
+    let bytes = piece.into_vec();
+    Ok(sized && bytes.as_slice() == b"abc".as_slice())
 }
 
 #[test]
 fn a_piece_has_its_bytes(rt: HostRuntime) -> Result<(), Fail> {
-    let piece = Piece::copy_in(rt.alloc(), b"abc")?;
-    assert!(rt; piece.len() == 3 && !piece.is_empty());
-    assert!(rt; piece.into_vec().as_slice() == b"abc".as_slice());
+    assert!(rt; has_bytes(rt.alloc())?);
     Ok(())
 }
