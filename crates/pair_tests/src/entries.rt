@@ -1,5 +1,5 @@
 //! Entries of the root, as the tests write them.
-use crate::made::pairs;
+use crate::made::{boxed, pairs, push};
 use mld_ops::Entry;
 use rdf_terms::{Triple, read_triple};
 use std::alloc::{AllocError, Global};
@@ -24,11 +24,17 @@ pub(crate) fn clock(alloc: Global, tick: u32) -> Result<Clock, AllocError> {
     Ok(clock)
 }
 
+// Puts the inserts of rows behind these.
+fn read(alloc: Global, inserts: &mut Vec<(Triple, u32)>, rows: &[(&str, u32)]) -> Result<(), Fail> {
+    for (line, tick) in rows {
+        push(inserts, (read_triple(alloc, line)?, *tick))?;
+    }
+    Ok(())
+}
+
 fn inserts(alloc: Global, rows: &[(&str, u32)]) -> Result<Vec<(Triple, u32)>, Fail> {
     let mut inserts = Vec::new(alloc);
-    for (line, tick) in rows {
-        inserts.push((read_triple(alloc, line)?, *tick))?;
-    }
+    read(alloc, &mut inserts, rows)?;
     Ok(inserts)
 }
 
@@ -42,18 +48,25 @@ pub(crate) struct Row<'a> {
 }
 
 /// The entry of a row.
-pub(crate) fn entry(alloc: Global, row: &Row) -> Result<Entry, Fail> {
+pub(crate) fn entry(alloc: Global, row: &Row) -> Result<Box<Entry>, Fail> {
     let time = clock(alloc, row.last)?;
     let deletes = pairs(alloc, row.deletes)?;
     let inserts = inserts(alloc, row.inserts)?;
-    Ok(Entry::new(range(row.first, row.last), time, deletes, inserts).ok_or("no entry")?)
+    match Entry::new(range(row.first, row.last), time, deletes, inserts) {
+        Some(entry) => Ok(boxed(alloc, entry)?),
+        None => Err("no entry".into()),
+    }
 }
 
-/// The entries of rows.
-pub(crate) fn entries(alloc: Global, rows: &[Row]) -> Result<Vec<Entry>, Fail> {
-    let mut entries = Vec::new(alloc);
+/// Puts the entries of rows behind these.
+pub(crate) fn read_entries(
+    alloc: Global,
+    entries: &mut Vec<Entry>,
+    rows: &[Row],
+) -> Result<(), Fail> {
     for row in rows {
-        entries.push(entry(alloc, row)?)?;
+        let entry = entry(alloc, row)?;
+        push(entries, Box::into_inner(entry))?;
     }
-    Ok(entries)
+    Ok(())
 }

@@ -1,6 +1,6 @@
 //! Entries that are fused, compacted and cut.
-use crate::entries::{Row, clock, entries, entry};
-use crate::made::{pair, pairs};
+use crate::entries::{Row, clock, entry, read_entries};
+use crate::made::{boxed, pair, pairs};
 use mld_ops::{Cut, Entry, Tagged, Tags};
 use op_fusion::{FuseFault, compact_entries, cut, fuse, has_neighbours};
 use rdf_terms::Triple;
@@ -18,7 +18,7 @@ const W: &str = "<http://d/s> <http://d/p> <http://d/w> .";
 
 // Tick 3 inserts V, and tick 4 inserts T, U and V. Tick 5 deletes W of tick 1, V of tick 3 and U of tick 4, and inserts T. Tick 6
 // deletes T of tick 4 and inserts U, and tick 8 inserts U.
-const ENTRIES: [Row; 4] = [
+const ENTRIES: &[Row] = &[
     Row {
         first: 3,
         last: 4,
@@ -45,27 +45,28 @@ const ENTRIES: [Row; 4] = [
     },
 ];
 
-// What the first two are fused to, and what they all are compacted to.
-const FUSED: [Row; 3] = [
-    Row {
-        first: 3,
-        last: 5,
-        deletes: &[(W, 1)],
-        inserts: &[(T, 4), (T, 5), (V, 4)],
-    },
-    Row {
-        first: 3,
-        last: 6,
-        deletes: &[(W, 1)],
-        inserts: &[(T, 5), (U, 6), (V, 4)],
-    },
-    Row {
-        first: 8,
-        last: 8,
-        deletes: &[],
-        inserts: &[(U, 8)],
-    },
-];
+// What the first two are fused to.
+const BOTH: &Row = &Row {
+    first: 3,
+    last: 5,
+    deletes: &[(W, 1)],
+    inserts: &[(T, 4), (T, 5), (V, 4)],
+};
+
+// What they all are compacted to: a run, and one that is alone.
+const RUN: &Row = &Row {
+    first: 3,
+    last: 6,
+    deletes: &[(W, 1)],
+    inserts: &[(T, 5), (U, 6), (V, 4)],
+};
+
+const ALONE: &Row = &Row {
+    first: 8,
+    last: 8,
+    deletes: &[],
+    inserts: &[(U, 8)],
+};
 
 fn are_same_pairs(pairs: &[Tagged], others: &[Tagged]) -> bool {
     pairs.len() == others.len()
@@ -90,58 +91,54 @@ fn are_alike(entry: &Entry, other: &Entry) -> bool {
         && entry.time().ticks(&range.path) == other.time().ticks(&range.path)
 }
 
-fn fuses_to(alloc: Global, first: &Entry, second: &Entry, both: &Entry) -> Result<bool, FuseFault> {
-    let fused = fuse(alloc, first, second)?;
-    Ok(are_alike(&fused, both))
+// Whether an entry is that of a row.
+fn is_of(alloc: Global, given: &Entry, row: &Row) -> Result<bool, Fail> {
+    let wanted = entry(alloc, row)?;
+    Ok(are_alike(given, &wanted))
+}
+
+fn fuses_to(alloc: Global, first: &Entry, second: &Entry, both: &Row) -> Result<bool, Fail> {
+    let fused = boxed(alloc, fuse(alloc, first, second)?)?;
+    is_of(alloc, &fused, both)
 }
 
 fn are_refused(alloc: Global, first: &Entry, second: &Entry) -> bool {
-    match fuse(alloc, first, second) {
-        Ok(_) => false,
-        Err(fault) => fault == FuseFault::NotAdjacent,
-    }
+    matches!(&fuse(alloc, first, second), Err(FuseFault::NotAdjacent))
 }
 
-// Whether the entries have neighbours, and are compacted to these two, which are none.
-fn compact_to(
-    alloc: Global,
-    entries: &[Entry],
-    first: &Entry,
-    second: &Entry,
-) -> Result<bool, AllocError> {
-    let runs = compact_entries(alloc, entries)?;
-    Ok(match runs.as_slice() {
-        [run, alone] => {
-            has_neighbours(entries)
-                && !has_neighbours(&runs)
-                && are_alike(run, first)
-                && are_alike(alone, second)
-        }
-        _ => false,
-    })
+// Whether these are the entries of two rows.
+fn are_of(alloc: Global, entries: &[Entry], first: &Row, second: &Row) -> Result<bool, Fail> {
+    let [run, alone] = entries else {
+        return Ok(false);
+    };
+    Ok(is_of(alloc, run, first)? && is_of(alloc, alone, second)?)
+}
+
+// Whether the entries have neighbours, and are compacted to those of two rows, which are none.
+fn compact_to(alloc: Global, entries: &[Entry], first: &Row, second: &Row) -> Result<bool, Fail> {
+    let runs = boxed(alloc, compact_entries(alloc, entries)?)?;
+    let fewer = has_neighbours(entries) && !has_neighbours(&runs);
+    Ok(fewer && are_of(alloc, &runs, first, second)?)
 }
 
 // Whether the entries are fused and compacted as wanted.
-fn are_fused(alloc: Global, entries: &[Entry], wanted: &[Entry]) -> Result<bool, FuseFault> {
+fn are_fused(alloc: Global, entries: &[Entry]) -> Result<bool, Fail> {
     let [first, second, _, last] = entries else {
         return Ok(false);
     };
-    let [both, run, alone] = wanted else {
-        return Ok(false);
-    };
     Ok(
-        fuses_to(alloc, first, second, both)?
+        fuses_to(alloc, first, second, BOTH)?
             && are_refused(alloc, first, last)
-            && compact_to(alloc, entries, run, alone)?,
+            && compact_to(alloc, entries, RUN, ALONE)?,
     )
 }
 
 #[test]
 fn a_run_becomes_one_and_what_is_alone_stays(rt: HostRuntime) -> Result<(), Fail> {
     let alloc = rt.alloc();
-    let given = Box::new(alloc, entries(alloc, &ENTRIES)?)?;
-    let wanted = Box::new(alloc, entries(alloc, &FUSED)?)?;
-    assert!(rt; are_fused(alloc, &given, &wanted)?);
+    let mut given = boxed(alloc, Vec::new(alloc))?;
+    read_entries(alloc, &mut given, ENTRIES)?;
+    assert!(rt; are_fused(alloc, &given)?);
     Ok(())
 }
 
@@ -177,28 +174,41 @@ fn is_cut(cut: &Cut, state: &Single, adds: &[Tagged]) -> bool {
     }
 }
 
-// Whether an entry drops the pair of a set, where the dots of a clock are known, and adds these.
-fn cuts_to(
-    alloc: Global,
-    entry: &Entry,
-    seen: &Clock,
-    state: &Single,
-    adds: &[Tagged],
-) -> Result<bool, AllocError> {
-    let cut = cut(alloc, entry, seen, state)?;
-    Ok(is_cut(&cut, state, adds))
+// Whether a change drops the pair of a set, and adds those of rows.
+fn is_cut_to(alloc: Global, cut: &Cut, state: &Single, rows: &[(&str, u32)]) -> Result<bool, Fail> {
+    let adds = pairs(alloc, rows)?;
+    Ok(is_cut(cut, state, &adds))
+}
+
+// What an entry changes in a set, where the dots of a clock are known.
+fn cut_by(alloc: Global, entry: &Entry, seen: &Clock, state: &Single) -> Result<Box<Cut>, Fail> {
+    Ok(boxed(alloc, cut(alloc, entry, seen, state)?)?)
+}
+
+// What the entry of a row changes in a set, where the ticks up to this one are known.
+fn cut_of(alloc: Global, row: &Row, tick: u32, state: &Single) -> Result<Box<Cut>, Fail> {
+    let seen = clock(alloc, tick)?;
+    let entry = entry(alloc, row)?;
+    cut_by(alloc, &entry, &seen, state)
+}
+
+// Whether the entry of a row drops the pair of a set, where the ticks up to this one are known, and adds all that the row inserts.
+fn cuts_to(alloc: Global, row: &Row, tick: u32, state: &Single) -> Result<bool, Fail> {
+    let cut = cut_of(alloc, row, tick, state)?;
+    is_cut_to(alloc, &cut, state, row.inserts)
+}
+
+// A set of the pair of a row.
+fn set_of(alloc: Global, row: (&str, u32)) -> Result<Box<Single>, Fail> {
+    let pair = pair(alloc, row)?;
+    Ok(boxed(alloc, Single { pair })?)
 }
 
 // The entry of ticks 3 to 6 is taken by one who has V of tick 3, and knows the ticks up to that.
 #[test]
 fn an_entry_seen_in_part_drops_what_its_end_deleted(rt: HostRuntime) -> Result<(), Fail> {
     let alloc = rt.alloc();
-    let row = FUSED[1];
-    let entry = Box::new(alloc, entry(alloc, &row)?)?;
-    let seen = Box::new(alloc, clock(alloc, 3)?)?;
-    let pair = pair(alloc, (V, 3))?;
-    let state = Box::new(alloc, Single { pair })?;
-    let adds = Box::new(alloc, pairs(alloc, row.inserts)?)?;
-    assert!(rt; cuts_to(alloc, &entry, &seen, &state, &adds)?);
+    let state = set_of(alloc, (V, 3))?;
+    assert!(rt; cuts_to(alloc, RUN, 3, &state)?);
     Ok(())
 }

@@ -1,10 +1,10 @@
 //! A graph that is asked, changed by a cut, and asked again; and a small set that is changed twice.
 ghost use Rattle.std.specs.Prelude.{◌≡◌, ◌<◌};
 
-use crate::made::{pair, pairs};
+use crate::made::{boxed, boxed_pair, graph, pairs};
 use graph_index::{Graph, PairSet, Steps};
 use mld_ops::{Cut, Tagged, Tags};
-use rdf_terms::{Iri, Term, read_triple};
+use rdf_terms::{Iri, Term, Triple, read_triple};
 use std::alloc::{AllocError, Global};
 use std::marker::Brand;
 use std::sync::ledger::{Blank, Ledger};
@@ -19,18 +19,18 @@ const YA: &str = "<urn:y> <urn:p> <urn:a> .";
 
 const YB: &str = "<urn:y> <urn:p> <urn:b> .";
 
-fn begun(alloc: Global) -> Result<Graph, Fail> {
-    let list = pairs(alloc, &[(XA, 1), (XA, 2), (XA, 7), (YB, 4)])?;
-    Ok(Graph::from_list(alloc, list)?)
+// A change that drops the pairs of rows, and adds those of others.
+fn cut(alloc: Global, drops: &[(&str, u32)], adds: &[(&str, u32)]) -> Result<Box<Cut>, Fail> {
+    let drops = pairs(alloc, drops)?;
+    let adds = pairs(alloc, adds)?;
+    Ok(boxed(alloc, Cut { drops, adds })?)
 }
 
 // Drops two pairs, and adds one of them again and two others.
 fn change(alloc: Global, graph: &mut Graph) -> Result<(), Fail> {
-    let drops = pairs(alloc, &[(XA, 1), (YB, 4)])?;
-    let adds = pairs(alloc, &[(XB, 5), (YA, 3), (YB, 4)])?;
-    let cut = Cut { drops, adds };
+    let cut = cut(alloc, &[(XA, 1), (YB, 4)], &[(XB, 5), (YA, 3), (YB, 4)])?;
     graph.prepare(alloc, &cut)?;
-    graph.apply(cut);
+    graph.apply(Box::into_inner(cut));
     Ok(())
 }
 
@@ -43,15 +43,20 @@ fn have_ticks(pairs: &[Tagged], ticks: &[u32]) -> bool {
             .all(|(pair, tick)| pair.dot.tick == *tick)
 }
 
-// Whether the graph has these ticks, in order.
-fn has_just(alloc: Global, graph: &Graph, ticks: &[u32]) -> Result<bool, AllocError> {
-    let list = Box::new(alloc, graph.to_list(alloc)?)?;
-    let lent = Box::new(alloc, graph.in_order(alloc)?)?;
-    let same = list
+// Whether the graph lends as many pairs as it has, and these in order.
+fn lends(alloc: Global, graph: &Graph, pairs: &[Tagged]) -> Result<bool, AllocError> {
+    let lent = graph.in_order(alloc)?;
+    let same = pairs
         .iter()
         .zip(lent.iter())
-        .all(|(own, there)| *own == **there);
-    Ok(graph.count() == lent.len() && same && have_ticks(&list, ticks))
+        .all(|(own, there)| own.cmp(*there).is_eq());
+    Ok(graph.count() == lent.len() && same)
+}
+
+// Whether the graph has these ticks, in order.
+fn has_just(alloc: Global, graph: &Graph, ticks: &[u32]) -> Result<bool, AllocError> {
+    let list = graph.to_list(alloc)?;
+    Ok(lends(alloc, graph, &list)? && have_ticks(&list, ticks))
 }
 
 // Whether the pairs of ticks 3 to 5 are these.
@@ -65,18 +70,33 @@ fn has_of_range<T: Tags>(alloc: Global, graph: &T, ticks: &[u32]) -> Result<bool
     Ok(have_ticks(&found, ticks))
 }
 
-// Whether the graph has a pair, and whether it has the triple of that.
-fn has(alloc: Global, graph: &Graph, row: (&str, u32)) -> Result<(bool, bool), Fail> {
-    let pair = pair(alloc, row)?;
-    Ok((graph.has(&pair), graph.has_triple(&pair.triple)))
+// Whether the graph has a pair, and has the triple of that, as is wanted.
+fn has(alloc: Global, graph: &Graph, row: (&str, u32), wanted: (bool, bool)) -> Result<bool, Fail> {
+    let pair = boxed_pair(alloc, row)?;
+    Ok(graph.has(&pair) == wanted.0 && graph.has_triple(&pair.triple) == wanted.1)
+}
+
+// The triple of a line, in a box.
+fn boxed_triple(alloc: Global, line: &str) -> Result<Box<Triple>, Fail> {
+    Ok(boxed(alloc, read_triple(alloc, line)?)?)
+}
+
+// Whether the pairs of a triple have ticks 2 and 7.
+fn has_pairs_of(alloc: Global, graph: &Graph, triple: &Triple) -> Result<bool, Fail> {
+    let pairs = graph.of_triple(alloc, triple)?;
+    Ok(have_ticks(&pairs, &[2, 7]))
+}
+
+// Whether the dots of a triple have ticks 2 and 7.
+fn has_dots_of(alloc: Global, graph: &Graph, triple: &Triple) -> Result<bool, Fail> {
+    let dots = graph.tags_of(alloc, triple)?;
+    Ok(dots.len() == 2 && dots[0].tick == 2 && dots[1].tick == 7)
 }
 
 // Whether the pairs of the first triple, and their dots, have ticks 2 and 7.
 fn has_tags(alloc: Global, graph: &Graph) -> Result<bool, Fail> {
-    let triple = Box::new(alloc, read_triple(alloc, XA)?)?;
-    let pairs = Box::new(alloc, graph.of_triple(alloc, &triple)?)?;
-    let dots = Box::new(alloc, graph.tags_of(alloc, &triple)?)?;
-    Ok(have_ticks(&pairs, &[2, 7]) && dots.len() == 2 && dots[0].tick == 2 && dots[1].tick == 7)
+    let triple = boxed_triple(alloc, XA)?;
+    Ok(has_pairs_of(alloc, graph, &triple)? && has_dots_of(alloc, graph, &triple)?)
 }
 
 fn scanned_in<L: Ledger>(
@@ -128,7 +148,7 @@ fn part<T>(given: bool, part: &T) -> Option<&T> {
 
 // Whether a scan finds pairs with that sum.
 fn is_scanned(alloc: Global, graph: &Graph, case: Scan) -> Result<bool, Fail> {
-    let triple = read_triple(alloc, case.0)?;
+    let triple = boxed_triple(alloc, case.0)?;
     let s = part(case.1, &triple.s);
     let p = part(case.2, &triple.p);
     let o = part(case.3, &triple.o);
@@ -137,22 +157,16 @@ fn is_scanned(alloc: Global, graph: &Graph, case: Scan) -> Result<bool, Fail> {
 
 // Eight pairs, each with a tick of its own power of two, so that a sum tells which they are. Subjects ascend by their texts with the
 // closing mark: `urn:w`, `urn:x#`, `urn:x`, `urn:xa`, `urn:y`.
-fn to_scan(alloc: Global) -> Result<Graph, Fail> {
-    let list = pairs(
-        alloc,
-        &[
-            ("<urn:w> <urn:p> <urn:a> .", 1),
-            (XA, 2),
-            (XA, 4),
-            (XB, 8),
-            ("<urn:x> <urn:q> <urn:a> .", 16),
-            ("<urn:x#> <urn:p> <urn:a> .", 32),
-            ("<urn:xa> <urn:p> <urn:a> .", 64),
-            (YA, 128),
-        ],
-    )?;
-    Ok(Graph::from_list(alloc, list)?)
-}
+const TO_SCAN: &[(&str, u32)] = &[
+    ("<urn:w> <urn:p> <urn:a> .", 1),
+    (XA, 2),
+    (XA, 4),
+    (XB, 8),
+    ("<urn:x> <urn:q> <urn:a> .", 16),
+    ("<urn:x#> <urn:p> <urn:a> .", 32),
+    ("<urn:xa> <urn:p> <urn:a> .", 64),
+    (YA, 128),
+];
 
 const SCANS: &[Scan] = &[
     (XA, true, false, false, 30),
@@ -173,47 +187,94 @@ const SCANS: &[Scan] = &[
 #[test]
 fn a_scan_finds_what_has_the_given_parts(rt: HostRuntime) -> Result<(), Fail> {
     let alloc = rt.alloc();
-    let graph = Box::new(alloc, to_scan(alloc)?)?;
+    let graph = graph(alloc, TO_SCAN)?;
     for case in SCANS {
         assert!(rt; is_scanned(alloc, &graph, *case)?);
     }
     Ok(())
 }
 
+const BEGUN: &[(&str, u32)] = &[(XA, 1), (XA, 2), (XA, 7), (YB, 4)];
+
+// Whether the graph has what it began with.
+fn is_begun(alloc: Global, graph: &Graph) -> Result<bool, Fail> {
+    Ok(has_just(alloc, graph, &[1, 2, 7, 4])? && has_of_range(alloc, graph, &[4])?)
+}
+
+// Whether the graph has what the change left.
+fn is_changed(alloc: Global, graph: &Graph) -> Result<bool, Fail> {
+    Ok(
+        has_just(alloc, graph, &[2, 7, 5, 3, 4])?
+            && has_of_range(alloc, graph, &[5, 3, 4])?
+            && has(alloc, graph, (XA, 1), (false, true))?
+            && has(alloc, graph, (YB, 4), (true, true))?
+            && has_tags(alloc, graph)?
+            && is_scanned(alloc, graph, (XB, true, false, false, 14))?,
+    )
+}
+
+// Whether the graph has what it should, before the change and behind it.
+fn drops_and_adds(alloc: Global, graph: &mut Graph) -> Result<bool, Fail> {
+    if !is_begun(alloc, graph)? {
+        return Ok(false);
+    }
+    change(alloc, graph)?;
+    is_changed(alloc, graph)
+}
+
 #[test]
 fn a_cut_drops_before_it_adds(rt: HostRuntime) -> Result<(), Fail> {
     let alloc = rt.alloc();
-    let mut graph = Box::new(alloc, begun(alloc)?)?;
-    assert!(rt; has_just(alloc, &graph, &[1, 2, 7, 4])? && has_of_range(alloc, &*graph, &[4])?);
-    change(alloc, &mut graph)?;
-    assert!(rt; has_just(alloc, &graph, &[2, 7, 5, 3, 4])?);
-    assert!(rt; has_of_range(alloc, &*graph, &[5, 3, 4])?);
-    assert!(rt; has(alloc, &graph, (XA, 1))? == (false, true));
-    assert!(rt; has(alloc, &graph, (YB, 4))? == (true, true));
-    assert!(rt;
-        has_tags(alloc, &graph)? && is_scanned(alloc, &graph, (XB, true, false, false, 14))?
-    );
+    let mut graph = graph(alloc, BEGUN)?;
+    assert!(rt; drops_and_adds(alloc, &mut graph)?);
     Ok(())
 }
 
-// A set that gains three pairs, and then loses two, one of which it gains again with another.
-fn changed_set(alloc: Global) -> Result<PairSet, Fail> {
-    let mut set = Box::new(alloc, PairSet::empty(alloc))?;
-    let drops = Vec::new(alloc);
-    let adds = pairs(alloc, &[(XA, 1), (XA, 7), (YB, 4)])?;
-    set.change(alloc, Cut { drops, adds })?;
-    let drops = pairs(alloc, &[(XA, 1), (YB, 4)])?;
-    let adds = pairs(alloc, &[(XB, 5), (YB, 4)])?;
-    set.change(alloc, Cut { drops, adds })?;
-    Ok(Box::into_inner(set))
+// Has a set lose the pairs of rows, and gain those of others.
+fn change_set(
+    alloc: Global,
+    set: &mut PairSet,
+    drops: &[(&str, u32)],
+    adds: &[(&str, u32)],
+) -> Result<(), Fail> {
+    let cut = cut(alloc, drops, adds)?;
+    set.change(alloc, Box::into_inner(cut))?;
+    Ok(())
+}
+
+// Whether the set has these ticks, in order.
+fn lists(alloc: Global, set: &PairSet, ticks: &[u32]) -> Result<bool, AllocError> {
+    let list = set.to_list(alloc)?;
+    Ok(have_ticks(&list, ticks))
+}
+
+// Whether the set has the pair of a row.
+fn contains(alloc: Global, set: &PairSet, row: (&str, u32)) -> Result<bool, Fail> {
+    let pair = boxed_pair(alloc, row)?;
+    Ok(set.has(&pair))
+}
+
+// Whether the set has what the changes left.
+fn is_left(alloc: Global, set: &PairSet) -> Result<bool, Fail> {
+    Ok(
+        lists(alloc, set, &[7, 5, 4])?
+            && has_of_range(alloc, set, &[5, 4])?
+            && contains(alloc, set, (YB, 4))?
+            && !contains(alloc, set, (XA, 1))?,
+    )
+}
+
+// Has a set gain three pairs, and then lose two, one of which it gains again with another. Whether it has what is left then.
+fn loses_and_gains(alloc: Global, set: &mut PairSet) -> Result<bool, Fail> {
+    change_set(alloc, set, &[], &[(XA, 1), (XA, 7), (YB, 4)])?;
+    change_set(alloc, set, &[(XA, 1), (YB, 4)], &[(XB, 5), (YB, 4)])?;
+    is_left(alloc, set)
 }
 
 #[test]
 fn a_small_set_loses_before_it_gains(rt: HostRuntime) -> Result<(), Fail> {
     let alloc = rt.alloc();
-    let set = Box::new(alloc, changed_set(alloc)?)?;
-    let list = Box::new(alloc, set.to_list(alloc)?)?;
-    assert!(rt; have_ticks(&list, &[7, 5, 4]) && has_of_range(alloc, &*set, &[5, 4])?);
-    assert!(rt; set.has(&pair(alloc, (YB, 4))?) && !set.has(&pair(alloc, (XA, 1))?));
+    let mut set = boxed(alloc, PairSet::empty(alloc))?;
+    assert!(rt; loses_and_gains(alloc, &mut set)?);
     Ok(())
 }

@@ -2,6 +2,7 @@
 ghost use Rattle.std.specs.Ordering.{nat_cmp};
 ghost use Rattle.tree_clock.specs.Lists.{IsAscending};
 
+use crate::made::{boxed, push};
 use crate::numbers::{BySize, Number, Under};
 use chunked_list::Chunked;
 use std::alloc::{AllocError, Global};
@@ -46,13 +47,25 @@ fn has_chunk(list: &Chunked<Number>, chunks: usize, at: usize, first: u32, end: 
     list.chunks().len() == chunks && next == end
 }
 
-// A list is made of the numbers from 0 to an end.
-fn made(alloc: Global, end: u32) -> Result<Chunked<Number>, AllocError> {
-    let mut numbers = Vec::new(alloc);
+// Puts the numbers from 0 to an end in a list.
+fn count_up(numbers: &mut Vec<Number>, end: u32) -> Result<(), AllocError> {
     for value in 0..end {
-        numbers.push(Number { value })?;
+        push(numbers, Number { value })?;
     }
-    Chunked::from_vec(alloc, numbers)
+    Ok(())
+}
+
+// A list is made of the numbers from 0 to an end.
+fn made(alloc: Global, end: u32) -> Result<Box<Chunked<Number>>, AllocError> {
+    let mut numbers = Vec::new(alloc);
+    count_up(&mut numbers, end)?;
+    boxed(alloc, Chunked::from_vec(alloc, numbers)?)
+}
+
+// Whether a list that is made of no numbers has no chunk.
+fn is_none_made(alloc: Global) -> Result<bool, AllocError> {
+    let list = made(alloc, 0)?;
+    Ok(list.chunks().is_empty())
 }
 
 // Whether a list that is made of so many numbers has so many chunks, the last of them from this number on.
@@ -61,18 +74,21 @@ fn is_made(alloc: Global, end: u32, chunks: usize, first: u32) -> Result<bool, A
     Ok(has_chunk(&list, chunks, chunks.saturating_sub(1), first, end) && list.len() == end as usize)
 }
 
+// How many numbers a list is made of, how many chunks it has, and the first number of the last one.
+const MADE: &[(u32, usize, u32)] = &[
+    (1, 1, 0),
+    (63, 1, 0),
+    (64, 2, 63),
+    (126, 2, 63),
+    (127, 3, 126),
+];
+
 #[test]
 fn lists_of_vectors_about_the_limit(rt: HostRuntime) -> Result<(), Fail> {
-    for (end, chunks, first) in [
-        (1, 1, 0),
-        (63, 1, 0),
-        (64, 2, 63),
-        (126, 2, 63),
-        (127, 3, 126),
-    ] {
-        assert!(rt; is_made(rt.alloc(), end, chunks, first)?);
+    for (end, chunks, first) in MADE {
+        assert!(rt; is_made(rt.alloc(), *end, *chunks, *first)?);
     }
-    assert!(rt; made(rt.alloc(), 0)?.chunks().is_empty());
+    assert!(rt; is_none_made(rt.alloc())?);
     Ok(())
 }
 
@@ -127,15 +143,44 @@ fn is_found(alloc: Global, list: &Chunked<Number>) -> Result<bool, AllocError>
     })
 }
 
+// Whether so many numbers pass a test.
+fn has_under(
+    alloc: Global,
+    list: &Chunked<Number>,
+    number: u32,
+    count: usize,
+) -> Result<bool, AllocError> {
+    let found = list.find_all(alloc, &Under { number })?;
+    Ok(found.len() == count)
+}
+
+// The chunks are as they are worked by hand, in a list that is empty at first.
+fn are_split(alloc: Global, list: &mut Chunked<Number>) -> bool
+    requires { IsAscending nat_cmp list.old.elements }
+    ensures { IsAscending nat_cmp list.new.elements }
+{
+    list.len() == 0
+        && splits(alloc, list)
+        && list.len() == 96
+        && splits_the_last(alloc, list)
+        && list.len() == 96
+        && loses_a_chunk(alloc, list)
+}
+
+// No chunk is left where all numbers go.
+fn is_emptied(list: &mut Chunked<Number>) -> bool
+    requires { IsAscending nat_cmp list.old.elements }
+{
+    cut_out(list, 0, 96);
+    list.len() == 0 && list.chunks().is_empty()
+}
+
 #[test]
 fn chunks_split_and_go_at_their_borders(rt: HostRuntime) -> Result<(), Fail> {
     let alloc = rt.alloc();
-    let mut list = Box::new(alloc, Chunked::new(alloc))?;
-    assert!(rt; list.len() == 0 && splits(alloc, &mut list) && list.len() == 96);
-    assert!(rt; splits_the_last(alloc, &mut list) && list.len() == 96);
-    assert!(rt; loses_a_chunk(alloc, &mut list) && is_found(alloc, &list)?);
-    assert!(rt; list.find_all(alloc, &Under { number: 66 })?.len() == 34);
-    cut_out(&mut list, 0, 96);
-    assert!(rt; list.len() == 0 && list.chunks().is_empty());
+    let mut list = boxed(alloc, Chunked::new(alloc))?;
+    assert!(rt; are_split(alloc, &mut list));
+    assert!(rt; is_found(alloc, &list)? && has_under(alloc, &list, 66, 34)?);
+    assert!(rt; is_emptied(&mut list));
     Ok(())
 }
