@@ -5,9 +5,9 @@ ghost use Rattle.node_run.specs.WordSpelling.{AreIris, AreTurns, IsGiven, IsPeer
 ghost use Rattle.node_run.specs.Words.{ReadsBy};
 
 use crate::faults::NodeWordsFault;
-use rdf_terms::{Iri, TermFault};
+use rdf_terms::{Iri, known_iri};
 use std::alloc::Global;
-use text_rules::{Text, is_domain};
+use text_rules::{Text, is_absolute, is_domain};
 use uuid::Uuid;
 
 /// The turns where no number of them is given.
@@ -134,9 +134,8 @@ pub fn read_iris(alloc: Global, given: Option<&[&str]>) -> Result<Vec<Iri>, Node
 fn read_iri(alloc: Global, text: &str) -> Result<Iri, NodeWordsFault>
     ensures { ReadsBy (λ iri. (iri ≡ text.now) × IsTrue (is_absolute text.now)) result }
 {
-    match Iri::new(alloc, text) {
-        Ok(iri) => Ok(iri),
-        Err(TermFault::BadIri) => Err(NodeWordsFault::Usage),
-        Err(_) => Err(NodeWordsFault::NoMemory),
+    if !is_absolute(text) {
+        return Err(NodeWordsFault::Usage);
     }
+    Ok(known_iri(alloc, text)?)
 }
