@@ -1,18 +1,14 @@
 //! Why a step isn't done.
 use std::alloc::{AllocError, AllocFailed};
-use thiserror::Error;
 
 /// Why a step isn't done.
-#[derive(Clone, Copy, Debug, PartialEq, Eq, Error)]
+#[derive(Clone, Copy)]
 pub enum Fault {
     /// The device failed.
-    #[error("the device failed")]
     Device,
     /// There is no such step, or it was refused for another reason.
-    #[error("no such step, or a refusal")]
     Amiss,
     /// Memory ran out.
-    #[error("out of memory")]
     NoMemory,
 }
 

@@ -53,8 +53,8 @@ pub fn line_of(text: &str) -> Line<'_> {
 /// The row of a word and what stands behind it.
 fn row_of<'a>(word: &'a str, rest: &'a str) -> Option<Row<'a>> {
     let (given, wanted) = rest.split_once(" => ")?;
-    let (calls, leave) = given.split_once(' ')?;
-    let (ended, steps) = wanted.split_once(' ')?;
+    let (calls, leave) = cut_word(given);
+    let (ended, steps) = cut_word(wanted);
     Some(Row {
         word,
         calls: calls.parse().ok()?,

@@ -9,15 +9,15 @@ mod messages;
 mod steps;
 mod telling;
 
-use crashes::crash_call;
-use faults::Tried;
+use crashes::put_crash;
 use lines::{Line, Row, line_of};
-use making::made_text;
-use std::alloc::{Alloc, AllocError, Global};
+use making::put_made;
+use std::alloc::{Alloc, Global};
 use std::fs;
 use std::io::{self, Print};
 use std::process::ExitCode;
 use std::thread::Threads;
+use telling::Told;
 
 /// The table that rows belong to.
 #[derive(Drop)]
@@ -26,22 +26,29 @@ struct Table<'a> {
     made: &'a str,
     /// The call.
     call: &'a str,
-    /// What stands after no durable step of the call, after one, and so on.
-    left: Vec<String>,
+    /// The steps that make what stands after no durable step of the call, after one, and so on.
+    left: Vec<&'a str>,
+}
+
+/// How many crashes there were, and how many of them, or of the lines that are none, differ.
+#[derive(Clone, Copy)]
+struct Count {
+    crashes: u64,
+    differ: u64,
 }
 
 fn main(rt: HostRuntime) -> io::Result<ExitCode> {
     let text = fs::read_to_string(&rt, "crashes.txt")?;
-    let (crashes, differ) = run_lines(&rt, text.as_str())?;
-    println!(rt; "{crashes} crashes, {differ} differ")?;
-    Ok(ExitCode::from(if differ == 0 { 0 } else { 1 }))
+    let count = run_lines(&rt, text.as_str())?;
+    println!(rt; "{} crashes, {} differ", count.crashes, count.differ)?;
+    Ok(ExitCode::from(if count.differ == 0 { 0 } else { 1 }))
 }
 
-/// Runs the rows of a text. Gives how many there are, and how many of them differ, or are none.
+/// Runs the rows of a text.
 fn run_lines<R: Print + Threads + Sync + Alloc<A = Global>>(
     rt: &R,
     text: &str,
-) -> io::Result<(u64, u64)> {
+) -> io::Result<Count> {
     let mut table = Table {
         made: "",
         call: "",
@@ -55,56 +62,47 @@ fn run_in<'a, R: Print + Threads + Sync + Alloc<A = Global>>(
     rt: &R,
     table: &mut Table<'a>,
     text: &'a str,
-) -> io::Result<(u64, u64)> {
-    let mut crashes = 0u64;
-    let mut differ = 0u64;
+) -> io::Result<Count> {
+    let mut count = Count {
+        crashes: 0,
+        differ: 0,
+    };
     let mut place = 0u64;
-    for text in text.lines() {
+    for line in text.lines() {
         place = place.saturating_add(1);
-        let line = line_of(text);
-        if matches!(line, Line::Row(_)) {
-            crashes = crashes.saturating_add(1);
-        }
-        if !is_as_wanted(rt, place, table, line)? {
-            differ = differ.saturating_add(1);
+        if !run_line(rt, place, table, &mut count, line)? {
+            count.differ = count.differ.saturating_add(1);
         }
     }
-    Ok((crashes, differ))
+    Ok(count)
 }
 
 /// Runs a line; whether it is no row, or its crash leaves what it wants. What differs is written.
-fn is_as_wanted<'a, R: Print + Threads + Sync + Alloc<A = Global>>(
+fn run_line<'a, R: Print + Threads + Sync + Alloc<A = Global>>(
     rt: &R,
     place: u64,
     table: &mut Table<'a>,
-    line: Line<'a>,
+    count: &mut Count,
+    line: &'a str,
 ) -> io::Result<bool> {
-    match line {
+    match line_of(line) {
         Line::Nothing => {}
         Line::Made(steps) => {
             table.made = steps;
             table.left.clear();
         }
         Line::Call(step) => table.call = step,
-        Line::Left(steps) => {
-            let left = text_of(rt.alloc(), made_text(rt, rt.alloc(), steps))?;
-            table.left.push(left)?;
+        Line::Left(steps) => table.left.push(steps)?,
+        Line::Row(row) => {
+            count.crashes = count.crashes.saturating_add(1);
+            return leaves_what_is_wanted(rt, place, table, row);
         }
-        Line::Row(row) => return leaves_what_is_wanted(rt, place, table, row),
         Line::Amiss => {
             println!(rt; "{place}: no such line")?;
             return Ok(false);
         }
     }
     Ok(true)
-}
-
-/// The text that came, or that of the fault.
-fn text_of(alloc: Global, tried: Tried<String>) -> Result<String, AllocError> {
-    match tried {
-        Ok(text) => Ok(text),
-        Err(fault) => format!(in alloc; "{fault}"),
-    }
 }
 
 /// Whether a crash leaves what its row wants. What differs is written.
@@ -114,18 +112,32 @@ fn leaves_what_is_wanted<R: Print + Threads + Sync + Alloc<A = Global>>(
     table: &Table<'_>,
     row: Row<'_>,
 ) -> io::Result<bool> {
-    let left = match table.left.get(row.steps) {
-        Some(text) => text.as_str(),
-        None => "",
-    };
-    let wanted = format!(in rt.alloc(); "{}, {left}", row.ended)?;
-    let came = crash_call(rt, rt.alloc(), table.made, table.call, row);
-    let got = text_of(rt.alloc(), came)?;
-    is_same(rt, place, wanted.as_str(), got.as_str())
+    let mut wanted = Told::new(rt.alloc());
+    put_wanted(rt, rt.alloc(), &mut wanted, table, row);
+    let mut got = Told::new(rt.alloc());
+    put_crash(rt, rt.alloc(), &mut got, table.made, table.call, row);
+    is_same(rt, place, &wanted, &got)
+}
+
+/// Puts what a row wants.
+fn put_wanted<R: Threads + Sync>(
+    rt: &R,
+    alloc: Global,
+    wanted: &mut Told,
+    table: &Table<'_>,
+    row: Row<'_>,
+) {
+    wanted.push_str(row.ended);
+    wanted.push_str(", ");
+    if let Some(steps) = table.left.get(row.steps) {
+        put_made(rt, alloc, wanted, steps);
+    }
 }
 
 /// Whether what came is what was wanted. What differs is written.
-fn is_same<R: Print>(rt: &R, place: u64, wanted: &str, got: &str) -> io::Result<bool> {
+fn is_same<R: Print>(rt: &R, place: u64, wanted: &Told, got: &Told) -> io::Result<bool> {
+    let wanted = wanted.text()?;
+    let got = got.text()?;
     if wanted == got {
         return Ok(true);
     }

@@ -1,14 +1,14 @@
-//! The making of clones: `genesis`, or `join TICKS` of one who is given a leaf; and steps behind that. What owns banks stands in a box,
-//! and is looked at where it stands.
+//! The making of clones: `genesis`, or `join TICKS` of one who is given a leaf; and steps behind that. Whatever becomes of a clone, its
+//! banks are taken back in the end.
 ghost use Rattle.std.specs.Prelude.{IfOk, IsTrue};
 ghost use Rattle.mld_ops.specs.Messages.{message_value, IsGoodMessage};
 ghost use Rattle.text_rules.specs.Domain.{is_domain};
 
 use crate::faults::{Fault, Tried};
-use crate::lines::cut_word;
+use crate::lines::{Row, cut_word};
 use crate::messages::{leaf, second};
-use crate::steps::{do_steps, number};
-use crate::telling::told;
+use crate::steps::{do_step, number};
+use crate::telling::{Told, put_clone};
 use clone_core::{Adopted, Asker, MldClone, Mounted};
 use disk_model::MemoryBanks;
 use journal_store::{Blank, MakeFault};
@@ -22,14 +22,22 @@ use uuid::Uuid;
 pub const NOTHING: &str = "nothing";
 
 /// Blank banks.
-pub type BlankBanks = Blank<MemoryBanks>;
+type BlankBanks = Blank<MemoryBanks>;
 
 /// A clone that was begun on blank banks, or the banks where it wasn't.
-pub type Begun = Adopted<MemoryBanks>;
+type Begun = Adopted<MemoryBanks>;
+
+/// What steps made. It isn't let go: its banks are taken back.
+pub struct Made {
+    /// A clone that was begun, or the banks where it wasn't.
+    pub begun: Begun,
+    /// Whether all steps are done, or why one of them isn't.
+    pub ended: Tried<()>,
+}
 
 /// How a clone begins.
 #[derive(Clone, Copy)]
-pub enum Start {
+enum Start {
     /// As the first one of the domain.
     Genesis,
     /// As one who asks, and is given a leaf by one who knows so many ticks.
@@ -37,7 +45,7 @@ pub enum Start {
 }
 
 /// The start that a step says.
-pub fn start_of(step: &str) -> Tried<Start> {
+fn start_of(step: &str) -> Tried<Start> {
     let (word, ticks) = cut_word(step);
     match word {
         "genesis" => Ok(Start::Genesis),
@@ -55,12 +63,60 @@ fn blank_of(mounted: Mounted<MemoryBanks>) -> Result<BlankBanks, MemoryBanks> {
     }
 }
 
-/// Banks that keep nothing.
-pub fn blank<R: Threads + Sync>(rt: &R, alloc: Global) -> Tried<Box<BlankBanks>> {
-    match blank_of(MldClone::mount(rt, alloc, MemoryBanks::blank(alloc))) {
-        Ok(blank) => Ok(Box::new(alloc, blank)?),
-        Err(_banks) => Err(Fault::Amiss),
+/// What a first step makes, on a device that is armed where a row says so.
+pub fn first_made<R: Threads + Sync>(
+    rt: &R,
+    alloc: Global,
+    step: &str,
+    row: Option<Row<'_>>,
+) -> Made {
+    let banks = MemoryBanks::blank(alloc);
+    match start_of(step) {
+        Ok(start) => begun_on(rt, alloc, start, row, banks),
+        Err(fault) => not_begun(banks, fault),
     }
+}
+
+/// What a start makes on banks that keep nothing yet.
+fn begun_on<R: Threads + Sync>(
+    rt: &R,
+    alloc: Global,
+    start: Start,
+    row: Option<Row<'_>>,
+    banks: MemoryBanks,
+) -> Made {
+    match blank_of(MldClone::mount(rt, alloc, banks)) {
+        Ok(blank) => begun_as(begin(rt, alloc, armed(blank, row), start)),
+        Err(banks) => not_begun(banks, Fault::Amiss),
+    }
+}
+
+/// Blank banks, which are armed where a row says so.
+fn armed(blank: BlankBanks, row: Option<Row<'_>>) -> BlankBanks {
+    let mut blank = blank;
+    if let Some(row) = row {
+        blank.arm(row.calls, row.leave);
+    }
+    blank
+}
+
+/// Banks on which no clone was begun.
+fn not_begun(banks: MemoryBanks, fault: Fault) -> Made {
+    Made {
+        begun: Adopted::Refused(MakeFault::NoMemory, banks),
+        ended: Err(fault),
+    }
+}
+
+/// A clone that was begun, or the banks where it wasn't, and why not.
+fn begun_as(begun: Begun) -> Made {
+    let ended = match &begun {
+        Adopted::Joined(_) => Ok(()),
+        Adopted::Refused(MakeFault::Device, _) => Err(Fault::Device),
+        Adopted::Refused(MakeFault::NoMemory, _) => Err(Fault::NoMemory),
+        Adopted::Ignored(_) => Err(Fault::Amiss),
+    };
+    Made { begun, ended }
 }
 
 /// The domain of all clones.
@@ -75,20 +131,18 @@ fn domain(alloc: Global) -> Tried<Text>
 }
 
 /// Begins a clone on blank banks.
-pub fn begin<R: Threads + Sync>(
-    rt: &R,
-    alloc: Global,
-    blank: Box<BlankBanks>,
-    start: Start,
-) -> Tried<Box<Begun>> {
-    match start {
-        Start::Genesis => genesis(alloc, blank),
-        Start::Join(tick) => join(rt, alloc, blank, tick),
+fn begin<R: Threads + Sync>(rt: &R, alloc: Global, blank: BlankBanks, start: Start) -> Begun {
+    match domain(alloc) {
+        Ok(domain) => match start {
+            Start::Genesis => genesis(alloc, blank, domain),
+            Start::Join(tick) => join(rt, alloc, blank, domain, tick),
+        },
+        Err(_fault) => Adopted::Refused(MakeFault::NoMemory, blank.into_banks()),
     }
 }
 
 /// The first clone of a domain.
-fn founded(alloc: Global, blank: BlankBanks, domain: Text) -> Begun
+fn genesis(alloc: Global, blank: BlankBanks, domain: Text) -> Begun
     requires { IsTrue (is_domain domain) }
 {
     match MldClone::genesis(alloc, blank, Uuid::from_u128(7), domain, Vec::new(alloc)) {
@@ -97,10 +151,20 @@ fn founded(alloc: Global, blank: BlankBanks, domain: Text) -> Begun
     }
 }
 
-/// The first clone of the domain.
-fn genesis(alloc: Global, blank: Box<BlankBanks>) -> Tried<Box<Begun>> {
-    let domain = domain(alloc)?;
-    Ok(Box::new(alloc, founded(alloc, Box::into_inner(blank), domain))?)
+/// One who asks for a leaf of a domain, and is given it by one who knows so many ticks.
+fn join<R: Threads + Sync>(
+    rt: &R,
+    alloc: Global,
+    blank: BlankBanks,
+    domain: Text,
+    tick: u32,
+) -> Begun
+    requires { IsTrue (is_domain domain) }
+{
+    match leaf(alloc, tick) {
+        Ok(message) => adopted(rt, alloc, blank, domain, &message),
+        Err(_fault) => Adopted::Refused(MakeFault::NoMemory, blank.into_banks()),
+    }
 }
 
 /// One who asks for a leaf of a domain, and is handed a message.
@@ -117,86 +181,53 @@ fn adopted<R: Threads + Sync>(
     Asker::new(blank, second(), domain, Vec::new(alloc)).receive(rt, alloc, message)
 }
 
-/// One who asks, and is given a leaf by one who knows so many ticks.
-fn join<R: Threads + Sync>(
-    rt: &R,
-    alloc: Global,
-    blank: Box<BlankBanks>,
-    tick: u32,
-) -> Tried<Box<Begun>> {
-    let message = leaf(alloc, tick)?;
-    let domain = domain(alloc)?;
-    let adopted = adopted(rt, alloc, Box::into_inner(blank), domain, &message);
-    Ok(Box::new(alloc, adopted)?)
-}
-
-/// Whether a clone was begun, or its device failed.
-pub fn is_begun(begun: &Begun) -> Tried<bool> {
-    match begun {
-        Adopted::Joined(_) => Ok(true),
-        Adopted::Refused(MakeFault::Device, _) => Ok(false),
-        Adopted::Refused(MakeFault::NoMemory, _) => Err(Fault::NoMemory),
-        Adopted::Ignored(_) => Err(Fault::Amiss),
-    }
-}
-
-/// Fails where no clone was begun.
-fn need_begun(begun: &Begun) -> Tried<()> {
-    if is_begun(begun)? {
-        Ok(())
-    } else {
-        Err(Fault::Device)
-    }
-}
-
 /// The banks of a clone that was begun, which stops, or those on which it wasn't.
-pub fn banks_of_begun(begun: Box<Begun>) -> MemoryBanks {
-    match Box::into_inner(begun) {
+pub fn banks_of_begun(begun: Begun) -> MemoryBanks {
+    match begun {
         Adopted::Joined(clone) => clone.stop(),
         Adopted::Ignored(asker) => asker.stop(),
         Adopted::Refused(_, banks) => banks,
     }
 }
 
-/// The clone that a first step begins.
-fn first_made<R: Threads + Sync>(rt: &R, alloc: Global, step: &str) -> Tried<Box<Begun>> {
-    let start = start_of(step)?;
-    let begun = begin(rt, alloc, blank(rt, alloc)?, start)?;
-    need_begun(&begun)?;
-    Ok(begun)
+/// What steps make, on a device of which no call fails.
+pub fn make<R: Threads + Sync>(rt: &R, alloc: Global, steps: &str) -> Made {
+    match steps.split_once(", ") {
+        None => first_made(rt, alloc, steps, None),
+        Some((first, others)) => {
+            let mut made = first_made(rt, alloc, first, None);
+            for step in others.split(", ") {
+                made.ended = do_next(rt, alloc, &mut made, step);
+            }
+            made
+        }
+    }
 }
 
-/// The clone that steps make, on a device of which no call fails.
-pub fn made<R: Threads + Sync>(rt: &R, alloc: Global, steps: &str) -> Tried<Box<Begun>> {
-    let Some((first, others)) = steps.split_once(", ") else {
-        return first_made(rt, alloc, steps);
-    };
-    let mut begun = first_made(rt, alloc, first)?;
-    do_more(rt, alloc, &mut begun, others)?;
-    Ok(begun)
+/// Does a step of a clone, where all steps before it are done.
+pub fn do_next<R: Threads + Sync>(rt: &R, alloc: Global, made: &mut Made, step: &str) -> Tried<()> {
+    made.ended?;
+    do_on(rt, alloc, &mut made.begun, step)
 }
 
-/// Does steps of a clone that was begun.
-fn do_more<R: Threads + Sync>(rt: &R, alloc: Global, begun: &mut Begun, steps: &str) -> Tried<()> {
+/// Does a step of a clone that was begun.
+fn do_on<R: Threads + Sync>(rt: &R, alloc: Global, begun: &mut Begun, step: &str) -> Tried<()> {
     match begun {
-        Adopted::Joined(clone) => do_steps(rt, alloc, clone, steps),
+        Adopted::Joined(clone) => do_step(rt, alloc, clone, step),
         Adopted::Refused(_, _) | Adopted::Ignored(_) => Err(Fault::Amiss),
     }
 }
 
-/// What a clone that was begun has, as a text.
-fn told_of(alloc: Global, begun: &Begun) -> Tried<String> {
-    match begun {
-        Adopted::Joined(clone) => Ok(told(alloc, clone)?),
-        Adopted::Refused(_, _) | Adopted::Ignored(_) => Err(Fault::Amiss),
-    }
-}
-
-/// What steps make, as a text.
-pub fn made_text<R: Threads + Sync>(rt: &R, alloc: Global, steps: &str) -> Tried<String> {
+/// Puts what steps make.
+pub fn put_made<R: Threads + Sync>(rt: &R, alloc: Global, told: &mut Told, steps: &str) {
     if steps == NOTHING {
-        return Ok(String::from_str(alloc, NOTHING)?);
+        told.push_str(NOTHING);
+        return;
     }
-    let begun = made(rt, alloc, steps)?;
-    told_of(alloc, &begun)
+    let Made { begun, ended } = make(rt, alloc, steps);
+    match &begun {
+        Adopted::Joined(clone) if ended.is_ok() => put_clone(told, clone),
+        _ => told.push_str("no such steps"),
+    }
+    banks_of_begun(begun);
 }

@@ -6,6 +6,7 @@ use crate::faults::{Fault, Tried};
 use mld_ops::{Entry, Give, Message, Snapshot, Tagged};
 use rdf_terms::{Triple, read_triple};
 use std::alloc::{AllocError, Global};
+use std::fmt::Display;
 use tree_clock::{Clock, Dot, Path, Range};
 use uuid::Uuid;
 
@@ -19,8 +20,8 @@ fn right() -> Path {
     Path::root().child(true)
 }
 
-/// The triple of a name.
-pub fn triple_of(alloc: Global, name: &str) -> Tried<Triple> {
+/// The triple of a name, or that which a tick inserts.
+pub fn triple_of<T: Display>(alloc: Global, name: &T) -> Tried<Triple> {
     let text = format!(in alloc; "<http://d/{name}> <http://d/p> <http://d/o> .")?;
     match read_triple(alloc, text.as_str()) {
         Ok(triple) => Ok(triple),
@@ -40,15 +41,9 @@ fn clock_of(alloc: Global, path: Path, tick: u32) -> Result<Clock, AllocError> {
 fn inserts_of(alloc: Global, first: u32, last: u32) -> Tried<Vec<(Triple, u32)>> {
     let mut inserts = Vec::new(alloc);
     for tick in first..=last {
-        inserts.push((triple_at(alloc, tick)?, tick))?;
+        inserts.push((triple_of(alloc, &tick)?, tick))?;
     }
     Ok(inserts)
-}
-
-/// The triple that a tick inserts.
-fn triple_at(alloc: Global, tick: u32) -> Tried<Triple> {
-    let name = format!(in alloc; "{tick}")?;
-    triple_of(alloc, name.as_str())
 }
 
 /// The range of these ticks.
@@ -76,11 +71,11 @@ fn snapshot_of(alloc: Global, path: Path, tick: u32) -> Tried<Snapshot>
     ensures { IfOk result (λ snapshot. IsGoodSnapshot (snapshot_value snapshot)) }
 {
     let dot = Dot { path, tick };
-    let triple = triple_at(alloc, tick)?;
     let clock = clock_of(alloc, path, tick)?;
     if !clock.covers(&dot) {
         return Err(Fault::Amiss);
     }
+    let triple = triple_of(alloc, &tick)?;
     let mut tagged = Vec::new(alloc);
     tagged.push(Tagged { triple, dot })?;
     Ok(Snapshot { clock, tagged })

@@ -6,12 +6,11 @@ ghost use Rattle.mld_ops.specs.Messages.{message_value, IsGoodMessage};
 use crate::faults::{Fault, Tried};
 use crate::lines::cut_word;
 use crate::messages::{range, second, snapshot, triple_of};
-use clone_core::{Done, KeepFault, MldClone, ReceiveFault, UpdateFault};
+use clone_core::{Done, Got, KeepFault, MldClone, ReceiveFault, UpdateFault};
 use disk_model::MemoryBanks;
 use jrql_ast::UpdatePlan;
 use mld_ops::Message;
-use rdf_terms::Triple;
-use std::alloc::{AllocError, Global};
+use std::alloc::Global;
 use std::thread::Threads;
 
 /// A clone on banks in memory.
@@ -30,40 +29,28 @@ pub fn do_step<R: Threads + Sync>(
         "remove" => change(alloc, clone, rest, false),
         "take" => take(rt, alloc, clone, rest),
         "merge" => merge(rt, alloc, clone, rest),
-        "fork" => fork(rt, alloc, clone),
+        "fork" => deliver(rt, alloc, clone, &Message::JoinAsk(second())),
         "compact" => kept(clone.compact(alloc)),
         "truncate" => kept(clone.truncate(alloc, u64::from(number(rest)?))),
         _ => Err(Fault::Amiss),
     }
 }
 
-/// Does steps, one after another.
-pub fn do_steps<R: Threads + Sync>(
-    rt: &R,
-    alloc: Global,
-    clone: &mut TestClone,
-    steps: &str,
-) -> Tried<()> {
-    for step in steps.split(", ") {
-        do_step(rt, alloc, clone, step)?;
-    }
-    Ok(())
-}
-
-/// The plan that inserts a triple, or the one that deletes it.
-fn plan_of(alloc: Global, triple: Triple, inserts: bool) -> Result<UpdatePlan, AllocError>
+/// The plan that inserts the triple of a name, or the one that deletes it.
+fn plan_of(alloc: Global, name: &str, inserts: bool) -> Tried<UpdatePlan>
     ensures { IfOk result IsPlanInForm }
 {
+    let triple = triple_of(alloc, &name)?;
     if inserts {
-        UpdatePlan::insertion(alloc, triple)
+        Ok(UpdatePlan::insertion(alloc, triple)?)
     } else {
-        UpdatePlan::deletion(alloc, triple)
+        Ok(UpdatePlan::deletion(alloc, triple)?)
     }
 }
 
 /// Makes the update that inserts the triple of a name, or the one that deletes it.
 fn change(alloc: Global, clone: &mut TestClone, name: &str, inserts: bool) -> Tried<()> {
-    let plan = plan_of(alloc, triple_of(alloc, name)?, inserts)?;
+    let plan = plan_of(alloc, name, inserts)?;
     updated(clone.update(alloc, &plan))
 }
 
@@ -85,24 +72,21 @@ fn deliver<R: Threads + Sync>(
 ) -> Tried<()>
     requires { IsGoodMessage (message_value message.now) }
 {
-    match clone.receive(rt, alloc, message) {
+    received(clone.receive(rt, alloc, message))
+}
+
+/// How a delivery ended.
+fn received(got: Result<Got, ReceiveFault>) -> Tried<()> {
+    match got {
         Ok(_got) => Ok(()),
         Err(ReceiveFault::Device) => Err(Fault::Device),
         Err(_fault) => Err(Fault::Amiss),
     }
 }
 
-/// Asks a clone for a leaf.
-fn fork<R: Threads + Sync>(rt: &R, alloc: Global, clone: &mut TestClone) -> Tried<()> {
-    deliver(rt, alloc, clone, &Message::JoinAsk(second()))
-}
-
 /// Takes the range `TICK` or `FIRST-LAST`, or holds it back.
 fn take<R: Threads + Sync>(rt: &R, alloc: Global, clone: &mut TestClone, ticks: &str) -> Tried<()> {
-    let (first, last) = match ticks.split_once('-') {
-        Some(both) => both,
-        None => (ticks, ticks),
-    };
+    let (first, last) = ticks.split_once('-').unwrap_or((ticks, ticks));
     let message = range(alloc, number(first)?, number(last)?)?;
     deliver(rt, alloc, clone, &message)
 }

@@ -3,75 +3,110 @@ use crate::steps::TestClone;
 use mld_ops::{Entry, Tagged};
 use rdf_terms::write_triple;
 use std::alloc::{AllocError, Global};
-use std::fmt::Write;
+use std::fmt::{Display, Write};
 use tree_clock::{Clock, Path};
 
-/// What a clone has.
-pub fn told(alloc: Global, clone: &TestClone) -> Result<String, AllocError> {
-    let mut text = String::new(alloc);
-    push_clone(alloc, &mut text, clone)?;
-    Ok(text)
-}
-
-/// Adds what a clone has.
-fn push_clone(alloc: Global, text: &mut String, clone: &TestClone) -> Result<(), AllocError> {
-    write!(text, "{}", clone.path())?;
-    push_clock(alloc, text, " known", clone.known())?;
-    push_clock(alloc, text, "; base", clone.base())?;
-    push_pairs(alloc, text, clone.base_pairs())?;
-    push_journal(text, clone.journal())?;
-    push_tagged(alloc, text, clone)
-}
-
-/// Adds the pairs that a clone has.
-fn push_tagged(alloc: Global, text: &mut String, clone: &TestClone) -> Result<(), AllocError> {
-    text.push_str("; has")?;
-    let tagged = clone.tagged(alloc)?;
-    push_pairs(alloc, text, &tagged)
-}
-
-/// Adds the ticks of a clock.
-fn push_clock(
+/// A text that is put together piece by piece. That a piece found no memory is noted, and told at the end.
+#[derive(Drop)]
+pub struct Told {
+    /// What takes memory.
     alloc: Global,
-    text: &mut String,
-    title: &str,
-    clock: &Clock,
-) -> Result<(), AllocError> {
-    text.push_str(title)?;
-    let ticks = clock.to_list(alloc)?;
-    push_ticks(text, &ticks)
+    /// What was put.
+    text: String,
+    /// Whether each piece found memory.
+    is_whole: bool,
 }
 
-/// Adds the ticks of paths.
-fn push_ticks(text: &mut String, ticks: &[(Path, u32)]) -> Result<(), AllocError> {
+impl Told {
+    /// Nothing yet.
+    pub fn new(alloc: Global) -> Told {
+        Told {
+            alloc,
+            text: String::new(alloc),
+            is_whole: true,
+        }
+    }
+
+    /// Puts a text.
+    pub fn push_str(&mut self, text: &str) {
+        self.is_whole &= self.text.push_str(text).is_ok();
+    }
+
+    /// Puts what is printed of a value.
+    pub fn push_printed<T: Display>(&mut self, value: &T) {
+        self.is_whole &= write!(self.text, "{value}").is_ok();
+    }
+
+    /// What was put, where each piece found memory.
+    pub fn text(&self) -> Result<&str, AllocError> {
+        if self.is_whole {
+            Ok(self.text.as_str())
+        } else {
+            Err(AllocError)
+        }
+    }
+}
+
+/// Puts what a clone has.
+pub fn put_clone(told: &mut Told, clone: &TestClone) {
+    told.push_printed(&clone.path());
+    put_clock(told, " known", clone.known());
+    put_clock(told, "; base", clone.base());
+    put_pairs(told, clone.base_pairs());
+    put_journal(told, clone.journal());
+    put_tagged(told, clone);
+}
+
+/// Puts the pairs that a clone has.
+fn put_tagged(told: &mut Told, clone: &TestClone) {
+    told.push_str("; has");
+    match clone.tagged(told.alloc) {
+        Ok(tagged) => put_pairs(told, tagged.as_slice()),
+        Err(_) => told.is_whole = false,
+    }
+}
+
+/// Puts the ticks of a clock.
+fn put_clock(told: &mut Told, title: &str, clock: &Clock) {
+    told.push_str(title);
+    match clock.to_list(told.alloc) {
+        Ok(ticks) => put_ticks(told, ticks.as_slice()),
+        Err(_) => told.is_whole = false,
+    }
+}
+
+/// Puts the ticks of paths.
+fn put_ticks(told: &mut Told, ticks: &[(Path, u32)]) {
     for (path, tick) in ticks {
-        write!(text, " {path}.{tick}")?;
+        told.push_str(" ");
+        told.push_printed(path);
+        told.push_str(".");
+        told.push_printed(tick);
     }
-    Ok(())
 }
 
-/// Adds the ranges of entries.
-fn push_journal(text: &mut String, entries: &[Entry]) -> Result<(), AllocError> {
-    text.push_str("; journal")?;
+/// Puts the ranges of entries.
+fn put_journal(told: &mut Told, entries: &[Entry]) {
+    told.push_str("; journal");
     for entry in entries {
-        write!(text, " {}", entry.range())?;
+        told.push_str(" ");
+        told.push_printed(&entry.range());
     }
-    Ok(())
 }
 
-/// Adds pairs.
-fn push_pairs(alloc: Global, text: &mut String, pairs: &[Tagged]) -> Result<(), AllocError> {
+/// Puts pairs.
+fn put_pairs(told: &mut Told, pairs: &[Tagged]) {
     for pair in pairs {
-        push_pair(alloc, text, pair)?;
+        put_pair(told, pair);
     }
-    Ok(())
 }
 
-/// Adds a pair.
-fn push_pair(alloc: Global, text: &mut String, pair: &Tagged) -> Result<(), AllocError> {
-    let mut bytes = Vec::new(alloc);
-    write_triple(&mut bytes, &pair.triple)?;
-    let triple = str::from_utf8(bytes.as_slice()).unwrap_or("no text");
-    write!(text, " {} {triple}", pair.dot)?;
-    Ok(())
+/// Puts a pair.
+fn put_pair(told: &mut Told, pair: &Tagged) {
+    let mut bytes = Vec::new(told.alloc);
+    told.is_whole &= write_triple(&mut bytes, &pair.triple).is_ok();
+    told.push_str(" ");
+    told.push_printed(&pair.dot);
+    told.push_str(" ");
+    told.push_str(str::from_utf8(bytes.as_slice()).unwrap_or("no text"));
 }
