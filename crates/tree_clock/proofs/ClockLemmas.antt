@@ -1,5 +1,6 @@
 -- Clocks as the lists of their trees: what changes and comparisons of trees say of the lists.
-use Rattle.std.proofs.Common.{◌≡◌, ◌≢◌, ℕ, ◌<◌, ◌≤◌, List, Option, Some, None, unwrap_or, IsSome, Bool, true, false, IsTrue, MatchBool, max, ◌↔◌, Result, Ok, Err, OnErr, refl, sym, ◌∙◌, ap, subst, arith}
+use Rattle.std.proofs.Common.{◌≡◌, ◌≢◌, ℕ, ◌<◌, ◌≤◌, List, [], ◌++◌, Option, Some, None, unwrap_or, IsSome, Bool, true, false, IsTrue, MatchBool, max, ◌↔◌, Result, Ok, Err, OnErr, refl, sym, ◌∙◌, ap, subst, arith}
+use Rattle.std.specs.Option.{option_map}
 use Rattle.std.proofs.lemmas.Bool.{false≢true}
 use Rattle.tree_clock.specs.Clock.{ticks_of, Covers, RaisesTo}
 use Rattle.tree_clock.proofs.ClockLaws.{by_order, less_apart, Covers-within}
@@ -77,6 +78,11 @@ ticks_of-merged old mid new from g h f path =
     ∙ ticks-merged (node_at mid path) (node_at from path) (h path)
     ∙ (λ i. max (ticks_at-grown old mid path g i) (ticks_at from path))
     ∙ (λ i. max (sym (ticks_of-listed old path) i) (sym (ticks_of-listed from path) i))
+
+-- the own path with its ticks, as the tree and as the list give it
+pub own_listed : (tree : Tree) (own : Option (List ℕ)) → option_map {U = Dot} (λ rest. record { path = [] ++ rest; tick = ticks_at tree rest }) own ≡ option_map {U = Dot} (λ path. record { path = path; tick = ticks_of (listed tree) path }) own
+own_listed tree None = refl
+own_listed tree (Some path) = λ i. Some (record { path = path; tick = sym (ticks_of-listed tree path) i })
 
 -- what holds, holds after an error
 pub on_err_always : {T E P : Type 0} (r : Result T E) → P → OnErr r P

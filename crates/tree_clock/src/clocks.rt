@@ -1,6 +1,6 @@
 //! Clocks: finite maps from paths to ticks.
-ghost use Rattle.std.specs.Prelude.{◌≡◌, ◌≢◌, ℕ, ◌<◌, ◌≤◌, ◌↔◌, [], List, length, max, IsTrue, IfOk, OnOk, OnErr, IsOk, MatchBool};
-ghost use Rattle.tree_clock.specs.Clock.{ticks_of, Covers, IsClock, HasRoom, RaisesTo};
+ghost use Rattle.std.specs.Prelude.{◌≡◌, ◌≢◌, ℕ, ◌<◌, ◌≤◌, ◌↔◌, [], List, Some, length, max, IsTrue, IfOk, OnOk, OnErr, IsOk, MatchBool};
+ghost use Rattle.tree_clock.specs.Clock.{ticks_of, Covers, IsClock, HasRoom, RaisesTo, own_dot};
 ghost use Rattle.tree_clock.specs.declared.dots.Dot.{Dot};
 
 use crate::dots::Dot;
@@ -9,7 +9,7 @@ use crate::trees::Tree;
 use std::alloc::{AllocError, Global};
 use std::marker::Model;
 
-/// A clock. It stands for the dots of each of its paths from tick 1 to the path's ticks.
+/// A clock. It stands for the dots of each of its paths from tick 1 to the path's ticks. One of its paths may be its own one.
 #[derive(Drop)]
 pub struct Clock {
     root: Tree,
@@ -20,11 +20,11 @@ impl Model for Clock {
     ghost use Rattle.std.specs.Prelude.{◌≤◌};
     ghost use Rattle.tree_clock.specs.Clock.{ClockValue};
     ghost use Rattle.tree_clock.specs.Limits.{path_limit};
-    ghost use Rattle.tree_clock.specs.Trees.{listed, nodes, height};
+    ghost use Rattle.tree_clock.specs.Trees.{listed, nodes, own_of, height};
 
     ghost Value = { ClockValue };
 
-    ghost view = { λ clock. record { ticks = listed clock.root; room = nodes clock.root } };
+    ghost view = { λ clock. record { ticks = listed clock.root; room = nodes clock.root; own = own_of clock.root } };
 
     ghost invariant = { λ clock. height clock.root ≤ path_limit };
 }
@@ -35,7 +35,7 @@ impl Clock {
         ensures { result.ticks ≡ [] }
     {
         Clock {
-            root: Tree::Leaf(0),
+            root: Tree::fresh(),
             alloc,
         }
     }
@@ -66,7 +66,7 @@ impl Clock {
             ((path : List ℕ) → ticks_of self.now.ticks path ≤ ticks_of other.now.ticks path)
             ((path : List ℕ) × (ticks_of other.now.ticks path < ticks_of self.now.ticks path)) }
     {
-        let empty = Tree::Leaf(0);
+        let empty = Tree::fresh();
         self.root.leq(&other.root, &empty)
     }
 
@@ -75,7 +75,7 @@ impl Clock {
         ensures { IsTrue result
             ↔ ((dot : Dot) → dot.path ≢ path.now → Covers self.now.ticks dot → Covers other.now.ticks dot) }
     {
-        let empty = Tree::Leaf(0);
+        let empty = Tree::fresh();
         self.root.leq_elsewhere(&other.root, &empty, path, 0)
     }
 
@@ -112,6 +112,23 @@ impl Clock {
         Ok(())
     }
 
+    /// Makes a path, for whose ticks there is room, the own one. It takes no memory.
+    pub fn set_own(&mut self, path: &Path)
+        requires { HasRoom self.old path.now }
+        ensures own { self.new.own ≡ Some path.now }
+        ensures ticks { self.new.ticks ≡ self.old.ticks }
+        ensures room { self.new.room ≡ self.old.room }
+    {
+        self.root.set_own(path, 0);
+    }
+
+    /// The own path with its ticks, if there is an own path.
+    pub fn own(&self) -> Option<Dot>
+        ensures { result ≡ own_dot self.now }
+    {
+        self.root.own_dot(Path::root())
+    }
+
     /// Whether fewer paths than so many have ticks. Takes no memory.
     pub fn has_fewer_than(&self, count: usize) -> bool
         ensures { IsTrue result ↔ (length self.now.ticks < count) }
@@ -133,6 +150,7 @@ impl Clock {
     pub fn copy_in(&self, alloc: Global) -> Result<Clock, AllocError>
         ensures ok { IfOk result (λ copy. copy.ticks ≡ self.now.ticks) }
         ensures room { IfOk result (λ copy. copy.room ≡ self.now.room) }
+        ensures own { IfOk result (λ copy. copy.own ≡ self.now.own) }
         ensures clock { IsClock self.now.ticks }
     {
         Ok(Clock {

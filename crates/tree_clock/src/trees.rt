@@ -1,29 +1,58 @@
-//! Trees of ticks: each node has the ticks of one path, and a node that forked has two sons.
-ghost use Rattle.std.specs.Prelude.{◌≡◌, ℕ, ◌+◌, ◌-◌, ◌≤◌, ◌++◌, ◌∷◌, ◌^◌, [], List, drop, length, max, min, IfOk, OnOk, IsOk, MatchBool, if◌then◌else◌};
+//! Trees of ticks: each node has the ticks of one path, and at most two sons. A son that is absent takes no memory.
+ghost use Rattle.std.specs.Prelude.{◌≡◌, ◌≢◌, ℕ, ◌+◌, ◌-◌, ◌≤◌, ◌++◌, ◌∷◌, ◌^◌, [], List, Option, Some, None, drop, length, max, min, suc, IfOk, OnOk, IsOk, IsTrue, ◌↔◌, MatchBool, if◌then◌else◌};
+ghost use Rattle.std.specs.Option.{option_map};
 ghost use Rattle.tree_clock.specs.Limits.{path_limit};
 ghost use Rattle.tree_clock.specs.Path.{zero_letter, one_letter};
-ghost use Rattle.tree_clock.specs.Trees.{ticks_at, HasNode, IsEmpty, HasSons, height, under, entry_of, listed, nodes, IsTreeWithin, Exceeds, IsWithinBut, ExceedsBut, Grows, HasNodesOf, node_at, raised_node, RaisesNode};
+ghost use Rattle.tree_clock.specs.Trees.{ticks_at, HasNode, IsEmpty, height, under, entry_of, listed, nodes, own_of, IsFresh, IsTreeWithin, Exceeds, IsWithinBut, ExceedsBut, Grows, HasNodesOf, HasNodesBelow, node_at, raised_node, RaisesNode, RaisesBelow};
 
+use crate::dots::Dot;
 use crate::paths::Path;
 use std::alloc::{AllocError, Global};
+use std::mem;
 
-/// A node with its ticks, and its two sons if it forked.
+/// Where the own path of a clock goes on from a node, if it leads there. At other nodes it tells nothing.
+#[derive(Clone, Copy)]
+pub enum Way {
+    /// Nowhere: there is no own path.
+    Away,
+    /// It ends here.
+    Here,
+    /// To the son at the letter `0`.
+    Zero,
+    /// To the son at the letter `1`.
+    One,
+}
+
+/// A node: where the own path goes on, its ticks, and the sons that it has.
 #[derive(Drop)]
 pub enum Tree {
     /// A node with no son.
-    Leaf(u32),
+    Leaf(Way, u32),
+    /// A node with a son at the letter `0` alone.
+    Left(Way, u32, Box<Tree>),
+    /// A node with a son at the letter `1` alone.
+    Right(Way, u32, Box<Tree>),
     /// A node with its sons at the letters `0` and `1`.
-    Fork(u32, Box<Tree>, Box<Tree>),
+    Fork(Way, u32, Box<Tree>, Box<Tree>),
 }
 
 impl Tree {
+    /// A node with no ticks, no son, and no own path.
+    pub fn fresh() -> Tree
+        ensures { IsFresh result }
+    {
+        Tree::Leaf(Way::Away, 0)
+    }
+
     // The ticks of the node itself.
     fn own(&self) -> u32
         ensures { result ≡ ticks_at self.now [] }
     {
         match self {
-            Tree::Leaf(ticks) => *ticks,
-            Tree::Fork(ticks, _, _) => *ticks,
+            Tree::Leaf(_, ticks) => *ticks,
+            Tree::Left(_, ticks, _) => *ticks,
+            Tree::Right(_, ticks, _) => *ticks,
+            Tree::Fork(_, ticks, _, _) => *ticks,
         }
     }
 
@@ -34,8 +63,10 @@ impl Tree {
             ≡ ticks_at self.now ((if one then one_letter else zero_letter) ∷ path) }
     {
         match self {
-            Tree::Leaf(_) => empty,
-            Tree::Fork(_, left, right) => { if one { right } else { left } }
+            Tree::Leaf(_, _) => empty,
+            Tree::Left(_, _, left) => { if one { empty } else { left } }
+            Tree::Right(_, _, right) => { if one { right } else { empty } }
+            Tree::Fork(_, _, left, right) => { if one { right } else { left } }
         }
     }
 
@@ -47,14 +78,17 @@ impl Tree {
         if depth == path.len() {
             return self.own();
         }
-        match self {
-            Tree::Leaf(_) => 0,
-            Tree::Fork(_, zero, one) => {
-                if path.letter(depth) {
-                    one.ticks(path, depth + 1)
-                } else {
-                    zero.ticks(path, depth + 1)
-                }
+        if path.letter(depth) {
+            match self {
+                Tree::Right(_, _, one) => one.ticks(path, depth + 1),
+                Tree::Fork(_, _, _, one) => one.ticks(path, depth + 1),
+                _ => 0,
+            }
+        } else {
+            match self {
+                Tree::Left(_, _, zero) => zero.ticks(path, depth + 1),
+                Tree::Fork(_, _, zero, _) => zero.ticks(path, depth + 1),
+                _ => 0,
             }
         }
     }
@@ -75,8 +109,10 @@ impl Tree {
         ensures { MatchBool result (IsWithinBut [] self.now other.now) (ExceedsBut [] self.now other.now) }
     {
         match self {
-            Tree::Leaf(_) => true,
-            Tree::Fork(_, zero, one) => {
+            Tree::Leaf(_, _) => true,
+            Tree::Left(_, _, zero) => zero.leq(other.son(false, empty), empty),
+            Tree::Right(_, _, one) => one.leq(other.son(true, empty), empty),
+            Tree::Fork(_, _, zero, one) => {
                 zero.leq(other.son(false, empty), empty) && one.leq(other.son(true, empty), empty)
             }
         }
@@ -84,7 +120,7 @@ impl Tree {
 
     /// Whether no path but this one has more ticks here than there.
     pub fn leq_elsewhere<'a>(
-        &self,
+        &'a self,
         other: &'a Tree,
         empty: &'a Tree,
         path: &Path,
@@ -101,37 +137,72 @@ impl Tree {
         if self.own() > other.own() {
             return false;
         }
+        let one = path.letter(depth);
+        let there = other.son(one, empty);
+        self.son(!one, empty).leq(other.son(!one, empty), empty)
+            && self
+                .son(one, empty)
+                .leq_elsewhere(there, empty, path, depth + 1)
+    }
+
+    // Whether the node has a son at a letter.
+    fn has_son(&self, one: bool) -> bool
+        ensures { IsTrue result ↔ HasNode self.now ((if one then one_letter else zero_letter) ∷ []) }
+    {
         match self {
-            Tree::Leaf(_) => true,
-            Tree::Fork(_, zero, one) => {
-                if path.letter(depth) {
-                    if !zero.leq(other.son(false, empty), empty) {
-                        return false;
-                    }
-                    one.leq_elsewhere(other.son(true, empty), empty, path, depth + 1)
-                } else {
-                    if !one.leq(other.son(true, empty), empty) {
-                        return false;
-                    }
-                    zero.leq_elsewhere(other.son(false, empty), empty, path, depth + 1)
-                }
-            }
+            Tree::Leaf(_, _) => false,
+            Tree::Left(_, _, _) => !one,
+            Tree::Right(_, _, _) => one,
+            Tree::Fork(_, _, _, _) => true,
         }
     }
 
-    // Gives a node with no son two sons with no ticks.
-    fn fork(&mut self, alloc: Global) -> Result<(), AllocError>
+    // The node with a fresh son at a letter; a son that is there already stays.
+    fn with_son(self, one: bool, son: Box<Tree>) -> Tree
+        requires { IsFresh son.value }
+        ensures grows { Grows self result }
+        ensures son { HasNode result ((if one then one_letter else zero_letter) ∷ []) }
+        ensures height { height result ≤ max (height self) 1 }
+    {
+        match self {
+            Tree::Leaf(way, ticks) => {
+                if one {
+                    Tree::Right(way, ticks, son)
+                } else {
+                    Tree::Left(way, ticks, son)
+                }
+            }
+            Tree::Left(way, ticks, left) => {
+                if one {
+                    Tree::Fork(way, ticks, left, son)
+                } else {
+                    Tree::Left(way, ticks, left)
+                }
+            }
+            Tree::Right(way, ticks, right) => {
+                if one {
+                    Tree::Right(way, ticks, right)
+                } else {
+                    Tree::Fork(way, ticks, son, right)
+                }
+            }
+            Tree::Fork(way, ticks, left, right) => Tree::Fork(way, ticks, left, right),
+        }
+    }
+
+    // Gives the node a son with no ticks at a letter, where it has none.
+    fn grow(&mut self, one: bool, alloc: Global) -> Result<(), AllocError>
         ensures grows { Grows self.old self.new }
-        ensures ok { OnOk result (HasSons self.new) }
-        ensures succeeds { HasSons self.old → IsOk result }
+        ensures ok { OnOk result (HasNode self.new ((if one then one_letter else zero_letter) ∷ [])) }
+        ensures succeeds { (rest : List ℕ) → HasNode self.old ((if one then one_letter else zero_letter) ∷ rest) → IsOk result }
         ensures height { height self.new ≤ max (height self.old) 1 }
     {
-        if let Tree::Leaf(ticks) = self {
-            let ticks = *ticks;
-            let zero = Box::new(alloc, Tree::Leaf(0))?;
-            let one = Box::new(alloc, Tree::Leaf(0))?;
-            *self = Tree::Fork(ticks, zero, one);
+        if self.has_son(one) {
+            return Ok(());
         }
+        let son = Box::new(alloc, Tree::fresh())?;
+        let old = mem::replace(self, Tree::fresh());
+        *self = old.with_son(one, son);
         Ok(())
     }
 
@@ -146,14 +217,20 @@ impl Tree {
         if depth == path.len() {
             return Ok(());
         }
-        self.fork(alloc)?;
-        let Tree::Fork(_, zero, one) = self else {
-            unreachable!()
-        };
-        if path.letter(depth) {
-            one.reserve(path, depth + 1, alloc)
+        let one = path.letter(depth);
+        self.grow(one, alloc)?;
+        if one {
+            match self {
+                Tree::Right(_, _, son) => son.reserve(path, depth + 1, alloc),
+                Tree::Fork(_, _, _, son) => son.reserve(path, depth + 1, alloc),
+                _ => unreachable!(),
+            }
         } else {
-            zero.reserve(path, depth + 1, alloc)
+            match self {
+                Tree::Left(_, _, son) => son.reserve(path, depth + 1, alloc),
+                Tree::Fork(_, _, son, _) => son.reserve(path, depth + 1, alloc),
+                _ => unreachable!(),
+            }
         }
     }
 
@@ -163,8 +240,10 @@ impl Tree {
         ensures height { height self.new ≡ height self.old }
     {
         match self {
-            Tree::Leaf(own) => *own = (*own).max(ticks),
-            Tree::Fork(own, _, _) => *own = (*own).max(ticks),
+            Tree::Leaf(_, own) => *own = (*own).max(ticks),
+            Tree::Left(_, own, _) => *own = (*own).max(ticks),
+            Tree::Right(_, own, _) => *own = (*own).max(ticks),
+            Tree::Fork(_, own, _, _) => *own = (*own).max(ticks),
         }
     }
 
@@ -179,36 +258,161 @@ impl Tree {
             self.raise_own(ticks);
             return;
         }
-        let Tree::Fork(_, zero, one) = self else {
-            unreachable!()
-        };
         if path.letter(depth) {
-            one.raise(path, depth + 1, ticks);
+            match self {
+                Tree::Right(_, _, one) => one.raise(path, depth + 1, ticks),
+                Tree::Fork(_, _, _, one) => one.raise(path, depth + 1, ticks),
+                _ => unreachable!(),
+            }
         } else {
-            zero.raise(path, depth + 1, ticks);
+            match self {
+                Tree::Left(_, _, zero) => zero.raise(path, depth + 1, ticks),
+                Tree::Fork(_, _, zero, _) => zero.raise(path, depth + 1, ticks),
+                _ => unreachable!(),
+            }
+        }
+    }
+
+    // Makes the node itself the end of the own path.
+    fn end_own(&mut self)
+        ensures own { own_of self.new ≡ Some [] }
+        ensures ticks { listed self.new ≡ listed self.old }
+        ensures nodes { nodes self.new ≡ nodes self.old }
+        ensures height { height self.new ≡ height self.old }
+    {
+        match self {
+            Tree::Leaf(way, _) => *way = Way::Here,
+            Tree::Left(way, _, _) => *way = Way::Here,
+            Tree::Right(way, _, _) => *way = Way::Here,
+            Tree::Fork(way, _, _, _) => *way = Way::Here,
+        }
+    }
+
+    /// Makes the path, which has a node, the own one. It takes no memory.
+    pub fn set_own(&mut self, path: &Path, depth: u8)
+        requires depth { depth ≤ length path.now }
+        requires node { HasNode self.old (drop depth path.now) }
+        ensures own { own_of self.new ≡ Some (drop depth path.now) }
+        ensures ticks { listed self.new ≡ listed self.old }
+        ensures nodes { nodes self.new ≡ nodes self.old }
+        ensures height { height self.new ≡ height self.old }
+    {
+        if depth == path.len() {
+            self.end_own();
+            return;
+        }
+        if path.letter(depth) {
+            match self {
+                Tree::Right(way, _, one) => {
+                    *way = Way::One;
+                    one.set_own(path, depth + 1);
+                }
+                Tree::Fork(way, _, _, one) => {
+                    *way = Way::One;
+                    one.set_own(path, depth + 1);
+                }
+                _ => unreachable!(),
+            }
+        } else {
+            match self {
+                Tree::Left(way, _, zero) => {
+                    *way = Way::Zero;
+                    zero.set_own(path, depth + 1);
+                }
+                Tree::Fork(way, _, zero, _) => {
+                    *way = Way::Zero;
+                    zero.set_own(path, depth + 1);
+                }
+                _ => unreachable!(),
+            }
+        }
+    }
+
+    /// The own path, which leads on from the given one, with its ticks.
+    pub fn own_dot(&self, path: Path) -> Option<Dot>
+        requires { length path + height self.now ≤ path_limit }
+        ensures { result ≡ option_map (λ rest. record { path = path ++ rest; tick = ticks_at self.now rest }) (own_of self.now) }
+    {
+        match self {
+            Tree::Leaf(way, ticks) => match way {
+                Way::Zero => None,
+                Way::One => None,
+                Way::Away => None,
+                Way::Here => Some(Dot { path, tick: *ticks }),
+            },
+            Tree::Left(way, ticks, zero) => match way {
+                Way::Zero => zero.own_dot(path.child(false)),
+                Way::One => None,
+                Way::Away => None,
+                Way::Here => Some(Dot { path, tick: *ticks }),
+            },
+            Tree::Right(way, ticks, one) => match way {
+                Way::Zero => None,
+                Way::One => one.own_dot(path.child(true)),
+                Way::Away => None,
+                Way::Here => Some(Dot { path, tick: *ticks }),
+            },
+            Tree::Fork(way, ticks, zero, one) => match way {
+                Way::Zero => zero.own_dot(path.child(false)),
+                Way::One => one.own_dot(path.child(true)),
+                Way::Away => None,
+                Way::Here => Some(Dot { path, tick: *ticks }),
+            },
         }
     }
 
     /// Makes a node, with no ticks, wherever this tree has one.
+    #[cycle(reserve_in)]
     pub fn reserve_in(&self, into: &mut Tree, alloc: Global) -> Result<(), AllocError>
         ensures grows { Grows into.old into.new }
         ensures ok { OnOk result (HasNodesOf into.new self.now) }
         ensures height { height into.new ≤ max (height into.old) (height self.now) }
     {
         match self {
-            Tree::Leaf(_) => Ok(()),
-            Tree::Fork(_, zero, one) => {
-                into.fork(alloc)?;
-                let Tree::Fork(_, zero_there, one_there) = into else {
-                    unreachable!()
-                };
-                zero.reserve_in(zero_there, alloc)?;
-                one.reserve_in(one_there, alloc)
+            Tree::Leaf(_, _) => Ok(()),
+            Tree::Left(_, _, zero) => zero.reserve_left(into, alloc),
+            Tree::Right(_, _, one) => one.reserve_right(into, alloc),
+            Tree::Fork(_, _, zero, one) => {
+                zero.reserve_left(into, alloc)?;
+                one.reserve_right(into, alloc)
             }
         }
     }
 
+    // Makes a node, with no ticks, below the letter `0` wherever this tree has one.
+    #[cycle(reserve_in)]
+    fn reserve_left(&self, into: &mut Tree, alloc: Global) -> Result<(), AllocError>
+        ensures grows { Grows into.old into.new }
+        ensures ok { OnOk result (HasNodesBelow zero_letter into.new self.now) }
+        ensures height { height into.new ≤ max (height into.old) (suc (height self.now)) }
+    {
+        into.grow(false, alloc)?;
+        match into {
+            Tree::Left(_, _, zero) => self.reserve_in(zero, alloc),
+            Tree::Fork(_, _, zero, _) => self.reserve_in(zero, alloc),
+            Tree::Leaf(_, _) => unreachable!(),
+            Tree::Right(_, _, _) => unreachable!(),
+        }
+    }
+
+    // Makes a node, with no ticks, below the letter `1` wherever this tree has one.
+    #[cycle(reserve_in)]
+    fn reserve_right(&self, into: &mut Tree, alloc: Global) -> Result<(), AllocError>
+        ensures grows { Grows into.old into.new }
+        ensures ok { OnOk result (HasNodesBelow one_letter into.new self.now) }
+        ensures height { height into.new ≤ max (height into.old) (suc (height self.now)) }
+    {
+        into.grow(true, alloc)?;
+        match into {
+            Tree::Right(_, _, one) => self.reserve_in(one, alloc),
+            Tree::Fork(_, _, _, one) => self.reserve_in(one, alloc),
+            Tree::Leaf(_, _) => unreachable!(),
+            Tree::Left(_, _, _) => unreachable!(),
+        }
+    }
+
     /// Raises the ticks of each path to those of this tree, where they are fewer.
+    #[cycle(raise_in)]
     pub fn raise_in(&self, into: &mut Tree)
         requires { HasNodesOf into.old self.now }
         ensures raises { (path : List ℕ) → node_at into.new path
@@ -217,14 +421,43 @@ impl Tree {
     {
         into.raise_own(self.own());
         match self {
-            Tree::Leaf(_) => {}
-            Tree::Fork(_, zero, one) => {
-                let Tree::Fork(_, zero_there, one_there) = into else {
-                    unreachable!()
-                };
-                zero.raise_in(zero_there);
-                one.raise_in(one_there);
+            Tree::Leaf(_, _) => {}
+            Tree::Left(_, _, zero) => zero.raise_left(into),
+            Tree::Right(_, _, one) => one.raise_right(into),
+            Tree::Fork(_, _, zero, one) => {
+                zero.raise_left(into);
+                one.raise_right(into);
             }
+        }
+    }
+
+    // Raises the ticks of each path below the letter `0` to those of this tree, where they are fewer.
+    #[cycle(raise_in)]
+    fn raise_left(&self, into: &mut Tree)
+        requires { HasNodesBelow zero_letter into.old self.now }
+        ensures raises { RaisesBelow zero_letter into.old into.new (ticks_at self.now) }
+        ensures height { height into.new ≡ height into.old }
+    {
+        match into {
+            Tree::Left(_, _, zero) => self.raise_in(zero),
+            Tree::Fork(_, _, zero, _) => self.raise_in(zero),
+            Tree::Leaf(_, _) => unreachable!(),
+            Tree::Right(_, _, _) => unreachable!(),
+        }
+    }
+
+    // Raises the ticks of each path below the letter `1` to those of this tree, where they are fewer.
+    #[cycle(raise_in)]
+    fn raise_right(&self, into: &mut Tree)
+        requires { HasNodesBelow one_letter into.old self.now }
+        ensures raises { RaisesBelow one_letter into.old into.new (ticks_at self.now) }
+        ensures height { height into.new ≡ height into.old }
+    {
+        match into {
+            Tree::Right(_, _, one) => self.raise_in(one),
+            Tree::Fork(_, _, _, one) => self.raise_in(one),
+            Tree::Leaf(_, _) => unreachable!(),
+            Tree::Left(_, _, _) => unreachable!(),
         }
     }
 
@@ -241,8 +474,10 @@ impl Tree {
     {
         let own = self.own_count();
         match self {
-            Tree::Leaf(_) => own,
-            Tree::Fork(_, zero, one) => own
+            Tree::Leaf(_, _) => own,
+            Tree::Left(_, _, zero) => own.saturating_add(zero.count()),
+            Tree::Right(_, _, one) => own.saturating_add(one.count()),
+            Tree::Fork(_, _, zero, one) => own
                 .saturating_add(zero.count())
                 .saturating_add(one.count()),
         }
@@ -255,8 +490,10 @@ impl Tree {
     {
         push_entry(list, path, self.own())?;
         match self {
-            Tree::Leaf(_) => Ok(()),
-            Tree::Fork(_, zero, one) => {
+            Tree::Leaf(_, _) => Ok(()),
+            Tree::Left(_, _, zero) => zero.append_to(path.child(false), list),
+            Tree::Right(_, _, one) => one.append_to(path.child(true), list),
+            Tree::Fork(_, _, zero, one) => {
                 zero.append_to(path.child(false), list)?;
                 one.append_to(path.child(true), list)
             }
@@ -267,14 +504,23 @@ impl Tree {
     pub fn copy_in(&self, alloc: Global) -> Result<Tree, AllocError>
         ensures ticks { IfOk result (λ copy. listed copy ≡ listed self.now) }
         ensures nodes { IfOk result (λ copy. nodes copy ≡ nodes self.now) }
+        ensures own { IfOk result (λ copy. own_of copy ≡ own_of self.now) }
         ensures height { IfOk result (λ copy. height copy ≡ height self.now) }
     {
         match self {
-            Tree::Leaf(ticks) => Ok(Tree::Leaf(*ticks)),
-            Tree::Fork(ticks, zero, one) => {
+            Tree::Leaf(way, ticks) => Ok(Tree::Leaf(*way, *ticks)),
+            Tree::Left(way, ticks, zero) => {
+                let zero = Box::new(alloc, zero.copy_in(alloc)?)?;
+                Ok(Tree::Left(*way, *ticks, zero))
+            }
+            Tree::Right(way, ticks, one) => {
+                let one = Box::new(alloc, one.copy_in(alloc)?)?;
+                Ok(Tree::Right(*way, *ticks, one))
+            }
+            Tree::Fork(way, ticks, zero, one) => {
                 let zero = Box::new(alloc, zero.copy_in(alloc)?)?;
                 let one = Box::new(alloc, one.copy_in(alloc)?)?;
-                Ok(Tree::Fork(*ticks, zero, one))
+                Ok(Tree::Fork(*way, *ticks, zero, one))
             }
         }
     }
