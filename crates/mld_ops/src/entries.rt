@@ -5,7 +5,7 @@ ghost use Rattle.mld_ops.specs.Entry.{IsEntry};
 ghost use Rattle.mld_ops.specs.EntryParts.{HasOwnTicks, AreDeletes, AreInserts};
 ghost use Rattle.mld_ops.specs.declared.tagged.Tagged.{Tagged};
 ghost use Rattle.rdf_terms.specs.declared.terms.Triple.{Triple};
-ghost use Rattle.tree_clock.specs.Clock.{Covers};
+ghost use Rattle.tree_clock.specs.Clock.{Covers, HasRoom};
 ghost use Rattle.tree_clock.specs.Dot.{IsIn};
 ghost use Rattle.tree_clock.specs.Lists.{IsAscending};
 
@@ -16,30 +16,32 @@ use std::alloc::{AllocError, Global};
 use std::marker::Model;
 use tree_clock::{Clock, Range};
 
-/// The net effect of the operations of a range, as it is sent and kept.
+/// The net effect of the operations of a range, as it is sent and kept. The range's path is the own one of the time, and its last tick the time's there.
 #[derive(Drop)]
 pub struct Entry {
-    range: Range,
+    first: u32,
     time: Clock,
     deletes: Vec<Tagged>,
     inserts: Vec<(Triple, u32)>,
 }
 
 impl Model for Entry {
+    ghost use Rattle.std.specs.Prelude.{IsSome};
     ghost use Rattle.mld_ops.specs.Entry.{EntryValue, IsEntry};
+    ghost use Rattle.mld_ops.specs.EntryParts.{own_range};
 
     ghost Value = { EntryValue };
 
-    ghost view = { λ e. record { range = e.range; time = e.time.ticks; deletes = e.deletes.items; inserts = e.inserts.items } };
+    ghost view = { λ e. record { range = own_range e.first e.time; time = e.time.ticks; deletes = e.deletes.items; inserts = e.inserts.items } };
 
-    ghost invariant = { λ e. IsEntry (record { range = e.range; time = e.time.ticks; deletes = e.deletes.items; inserts = e.inserts.items }) };
+    ghost invariant = { λ e. IsSome e.time.own × IsEntry (record { range = own_range e.first e.time; time = e.time.ticks; deletes = e.deletes.items; inserts = e.inserts.items }) };
 }
 
 impl Entry {
     /// The entry of these parts, or none where they are none of an entry. It takes no memory.
     pub fn new(
         range: Range,
-        time: Clock,
+        mut time: Clock,
         deletes: Vec<Tagged>,
         inserts: Vec<(Triple, u32)>,
     ) -> Option<Entry>
@@ -54,8 +56,9 @@ impl Entry {
             }) }
     {
         if is_entry(&range, &time, &deletes, &inserts) {
+            time.set_own(&range.path);
             Some(Entry {
-                range,
+                first: range.first,
                 time,
                 deletes,
                 inserts,
@@ -70,7 +73,14 @@ impl Entry {
         ensures value { result ≡ self.now.range }
         ensures entry { IsEntry self.now }
     {
-        self.range
+        let Some(own) = self.time.own() else {
+            unreachable!()
+        };
+        Range {
+            path: own.path,
+            first: self.first,
+            last: own.tick,
+        }
     }
 
     /// The dots known after the last operation of the range.
@@ -102,7 +112,7 @@ impl Entry {
         let deletes = copy_pairs(alloc, &self.deletes)?;
         let inserts = copy_inserts(alloc, &self.inserts)?;
         Ok(Entry {
-            range: self.range,
+            first: self.first,
             time,
             deletes,
             inserts,
@@ -123,15 +133,17 @@ fn copy_inserts(alloc: Global, inserts: &[(Triple, u32)]) -> Result<Vec<(Triple,
 
 // Whether these are the parts of an entry.
 fn is_entry(range: &Range, time: &Clock, deletes: &[Tagged], inserts: &[(Triple, u32)]) -> bool
-    ensures { IsTrue result
+    ensures entry { IsTrue result
         ↔ IsEntry (record { range = range.now; time = time.now.ticks; deletes = deletes.now; inserts = inserts.now }) }
+    ensures room { IsTrue result → HasRoom time.now range.now.path }
 {
     has_own_ticks(range, time) && are_deletes(range, time, deletes) && are_inserts(range, inserts)
 }
 
 // Whether the range has a dot, no tick 0, and the time ends it.
 fn has_own_ticks(range: &Range, time: &Clock) -> bool
-    ensures { IsTrue result ↔ HasOwnTicks range.now time.now.ticks }
+    ensures own { IsTrue result ↔ HasOwnTicks range.now time.now.ticks }
+    ensures room { IsTrue result → HasRoom time.now range.now.path }
 {
     1 <= range.first && range.first <= range.last && time.ticks(&range.path) == range.last
 }
