@@ -3,8 +3,8 @@ use Rattle.std.proofs.Common.{◌≡◌, ◌∙◌, ℕ, ◌+◌, ◌<◌, List,
 use Rattle.std.proofs.lemmas.List.{append-nil, get_or_default, take-append-drop, take_rest}
 use Rattle.std.proofs.lemmas.List.Elements.{filter-append}
 use Rattle.std.specs.List.{filter}
-use Rattle.tree_clock.specs.Lists.{Has}
-use Rattle.mld_ops.proofs.AscendingLaws.{has_right}
+use Rattle.hinted_chunks.specs.tree_clock.Lists.{Has}
+use Rattle.hinted_chunks.proofs.of_mld_ops.AscendingLaws.{has_right}
 use Rattle.chunked_list.specs.Joined.{joined_chunks, chunk_at, front_of, back_of}
 use Rattle.chunked_list.specs.Parted.{IsParted, Divides, HasFailing, is_between}
 use Rattle.chunked_list.proofs.Parting.{all_has, parted_across, parted_left, parted_right}

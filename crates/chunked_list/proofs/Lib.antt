@@ -1,13 +1,9 @@
+pub use Rattle.hinted_chunks.proofs as of_hinted_chunks
 pub mod JoinedLaws
 pub mod Parting
 pub mod Placing
 pub mod Storing
 pub mod Loads
-pub mod Halving
-pub mod Hinting
-pub mod Sharing
 pub mod Splitting
-pub mod Topping
 pub mod Standing
 pub mod Between
-pub mod Closing

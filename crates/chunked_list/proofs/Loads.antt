@@ -2,7 +2,7 @@
 use Rattle.std.proofs.Common.{◌≡◌, ℕ, ◌+◌, ◌-◌, ◌<◌, ◌≤◌, min, List, [], ◌∷◌, ◌++◌, length, set, take, suc, zero, refl, sym, subst, ap, ◌∙◌, arith}
 use Rattle.std.proofs.lemmas.List.{length-take, length-drop, length-set}
 use Rattle.std.specs.List.{remove, insert}
-use Rattle.chunked_list.specs.ChunkLimits.{chunk_limit, half_limit}
+use Rattle.hinted_chunks.specs.ChunkLimits.{chunk_limit, half_limit}
 use Rattle.chunked_list.specs.Joined.{chunk_at}
 use Rattle.chunked_list.specs.Room.{excess_of, last_half, load_of, room_of}
 use Rattle.chunked_list.specs.Stores.{AreSized}

@@ -7,9 +7,10 @@ use Rattle.std.specs.List.Sorted.{IsPartitionedBy}
 use Rattle.std.specs.Ordering.{is_lt}
 use Rattle.std.specs.declared.cmp.Ordering.{Ordering}
 use Rattle.std.specs.declared.cmp.Ordering.TheVariants.{Less, Equal, Greater}
-use Rattle.tree_clock.specs.Lists.{Has, IsAscending}
-use Rattle.mld_ops.proofs.AscendingLaws.{below_member, has_left, has_right, has_at}
-use Rattle.chunked_list.specs.Joined.{joined_chunks, chunk_at, first_passes}
+use Rattle.hinted_chunks.specs.tree_clock.Lists.{Has, IsAscending}
+use Rattle.hinted_chunks.proofs.of_mld_ops.AscendingLaws.{below_member, has_left, has_right, has_at}
+use Rattle.chunked_list.specs.Joined.{joined_chunks, chunk_at}
+use Rattle.hinted_chunks.specs.Hinted.{first_passes}
 use Rattle.chunked_list.specs.Parted.{IsParted}
 use Rattle.chunked_list.specs.Stores.{IsSized, AreSized}
 

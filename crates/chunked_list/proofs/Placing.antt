@@ -2,9 +2,10 @@
 use Rattle.std.proofs.Common.{◌≡◌, ℕ, ◌+◌, ◌-◌, ◌<◌, ◌≤◌, List, [], ◌∷◌, ◌++◌, Bool, true, false, length, take, drop, suc, zero, refl, sym, subst, ap, ◌∙◌, inl, inr, arith, append_assoc}
 use Rattle.std.specs.List.Sorted.{IsPartitionPoint}
 use Rattle.std.proofs.lemmas.List.{take-append-drop, take_all, drop_all, take_more, append-nil}
-use Rattle.tree_clock.specs.Lists.{Has}
-use Rattle.mld_ops.proofs.AscendingLaws.{has_append, has_left, has_right, within_front, within_back}
-use Rattle.chunked_list.specs.Joined.{joined_chunks, chunk_at, front_of, back_of, first_passes}
+use Rattle.hinted_chunks.specs.tree_clock.Lists.{Has}
+use Rattle.hinted_chunks.proofs.of_mld_ops.AscendingLaws.{has_append, has_left, has_right, within_front, within_back}
+use Rattle.chunked_list.specs.Joined.{joined_chunks, chunk_at, front_of, back_of}
+use Rattle.hinted_chunks.specs.Hinted.{first_passes}
 use Rattle.chunked_list.proofs.JoinedLaws.{joined_append}
 use Rattle.chunked_list.specs.Parted.{IsParted, Divides}
 use Rattle.chunked_list.specs.Stores.{AreSized}

@@ -2,7 +2,7 @@
 use Rattle.std.proofs.Common.{◌≡◌, ◌-◌, ℕ, ◌+◌, ◌<◌, List, [], ◌∷◌, ◌++◌, length, set, sym, subst, ap, ◌∙◌, arith}
 use Rattle.std.proofs.lemmas.List.{length-set, length-append}
 use Rattle.std.specs.List.{AllByRecursion, insert}
-use Rattle.chunked_list.specs.ChunkLimits.{chunk_limit, half_limit}
+use Rattle.hinted_chunks.specs.ChunkLimits.{chunk_limit, half_limit}
 use Rattle.chunked_list.specs.Joined.{joined_chunks, chunk_at, front_of, back_of}
 use Rattle.chunked_list.specs.Room.{excess_of}
 use Rattle.chunked_list.specs.Stores.{AreSized}

@@ -7,8 +7,8 @@ use Rattle.std.specs.Cmp.{IsTotalOrder}
 use Rattle.std.specs.Ordering.{is_lt, is_eq}
 use Rattle.std.specs.declared.cmp.Ordering.{Ordering}
 use Rattle.std.specs.declared.cmp.Ordering.TheVariants.{Less, Equal, Greater}
-use Rattle.tree_clock.specs.Lists.{Has, IsAscending}
-use Rattle.mld_ops.proofs.AscendingLaws.{below_member, below_from_members, has_append, has_left, has_right, ascending_append, ascending_front, ascending_back, ascending_without, has_without}
+use Rattle.hinted_chunks.specs.tree_clock.Lists.{Has, IsAscending}
+use Rattle.hinted_chunks.proofs.of_mld_ops.AscendingLaws.{below_member, below_from_members, has_append, has_left, has_right, ascending_append, ascending_front, ascending_back, ascending_without, has_without}
 use Rattle.chunked_list.specs.Joined.{joined_chunks, front_of, back_of}
 use Rattle.chunked_list.specs.Parted.{IsFirstOf}
 use Rattle.chunked_list.proofs.Placing.{whole}

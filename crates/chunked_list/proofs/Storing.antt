@@ -2,7 +2,7 @@
 use Rattle.std.proofs.Common.{◌≡◌, ℕ, ◌+◌, ◌-◌, ◌*◌, ◌<◌, ◌≤◌, List, [], ◌∷◌, ◌++◌, length, get_or, set, take, drop, suc, zero, refl, sym, ap, ◌∙◌, arith, append_assoc}
 use Rattle.std.proofs.lemmas.List.{length-append, length-take, length-drop, take-append-drop}
 use Rattle.std.specs.List.{remove, insert}
-use Rattle.chunked_list.specs.ChunkLimits.{chunk_limit, half_limit}
+use Rattle.hinted_chunks.specs.ChunkLimits.{chunk_limit, half_limit}
 use Rattle.chunked_list.specs.Joined.{joined_chunks, chunk_at, front_of, back_of}
 use Rattle.chunked_list.specs.Room.{excess_of}
 use Rattle.chunked_list.specs.Stores.{IsSized, AreSized}

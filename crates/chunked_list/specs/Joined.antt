@@ -1,5 +1,5 @@
 -- A list in chunks, and a place in it.
-use Rattle.std.specs.Prelude.{◌≡◌, ℕ, ◌+◌, List, [], ◌∷◌, ◌++◌, Bool, true, take, drop}
+use Rattle.std.specs.Prelude.{◌≡◌, ℕ, ◌+◌, List, [], ◌∷◌, ◌++◌, take, drop}
 use Rattle.std.specs.List.{slice_index_or}
 
 -- the elements of all chunks, in order
@@ -30,8 +30,3 @@ without_element chunks chunk at = front_of chunks chunk at ++ drop 1 (back_of ch
 -- that one is the given element
 abbrev pub IsRightBehind : {X : Type 0} → List (List X) → ℕ → ℕ → X → Type 0
 IsRightBehind chunks chunk at x = back_of chunks chunk at ≡ x ∷ drop 1 (back_of chunks chunk at)
-
--- whether the first element passes, or there is none
-abbrev pub first_passes : {X : Type 0} → (X → Bool) → List X → Bool
-first_passes p [] = true
-first_passes p (x ∷ xs) = p x

@@ -1,9 +1,7 @@
-pub mod ChunkLimits
-pub mod ClosedTexts
-pub mod Hinted
+pub use Rattle.hinted_chunks.specs.ClosedTexts as ClosedTexts
+pub use Rattle.hinted_chunks.specs.Leading as Leading
+pub use Rattle.hinted_chunks.specs as hinted_chunks
 pub mod Joined
-pub mod Leading
 pub mod Parted
 pub mod Room
 pub mod Stores
-pub mod TopLaws

@@ -1,7 +1,7 @@
 -- Lists that a test divides, and where.
 use Rattle.std.specs.Prelude.{◌≡◌, ℕ, ◌<◌, List, [], ◌∷◌, ◌⊎◌, Bool, true, false, not, ◌&&◌, length, Option, None, Some}
 use Rattle.std.specs.List.{AllByRecursion}
-use Rattle.tree_clock.specs.Lists.{Has}
+use Rattle.hinted_chunks.specs.tree_clock.Lists.{Has}
 use Rattle.chunked_list.specs.Joined.{chunk_at, front_of, back_of}
 
 -- no element behind one that fails the test passes it

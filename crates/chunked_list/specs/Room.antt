@@ -1,6 +1,6 @@
 -- How many elements can come in without memory.
 use Rattle.std.specs.Prelude.{ℕ, ◌+◌, ◌-◌, ◌*◌, List, [], ◌∷◌, length, max, min}
-use Rattle.chunked_list.specs.ChunkLimits.{half_limit}
+use Rattle.hinted_chunks.specs.ChunkLimits.{half_limit}
 
 -- by how many elements the chunks pass their halves, summed up
 abbrev pub excess_of : {X : Type 0} → List (List X) → ℕ

@@ -2,9 +2,9 @@
 use Rattle.std.specs.Prelude.{◌≡◌, ℕ, ◌+◌, ◌<◌, ◌≤◌, List, [], length, vec_len, vec_capacity}
 use Rattle.std.specs.List.{AllByRecursion}
 use Rattle.chunked_list.specs.declared.stores.Store.{Store}
-use Rattle.chunked_list.specs.Hinted.{IsHinted, top_key}
+use Rattle.hinted_chunks.specs.Hinted.{IsHinted, top_key}
 use Rattle.chunked_list.specs.Joined.{joined_chunks}
-use Rattle.chunked_list.specs.ChunkLimits.{chunk_limit, chunks_limit}
+use Rattle.hinted_chunks.specs.ChunkLimits.{chunk_limit, chunks_limit}
 use Rattle.chunked_list.specs.Room.{excess_of, load_of, room_of}
 
 -- a chunk of the list has an element, and is not full

@@ -1,16 +1,13 @@
 //! Edits of a list of chunks, with the hints of these.
-ghost use Rattle.std.specs.Prelude.{◌≡◌, ◌<◌, ◌≤◌, ◌+◌, ◌++◌, ◌∷◌, [], length, take, drop, vec_len, vec_capacity};
+ghost use Rattle.std.specs.Prelude.{◌≡◌, ◌<◌, ◌≤◌, ◌+◌, ◌++◌, ◌∷◌, List, [], length, take, drop, vec_len, vec_capacity};
 ghost use Rattle.std.specs.List.{insert, remove, slice_index_or, slice_set};
 ghost use Rattle.chunked_list.specs.Joined.{chunk_at};
-ghost use Rattle.chunked_list.specs.ChunkLimits.{chunk_limit, half_limit};
-ghost use Rattle.chunked_list.specs.Hinted.{IsHinted, top_key};
+ghost use Rattle.hinted_chunks.specs.ChunkLimits.{chunk_limit, half_limit};
+ghost use Rattle.hinted_chunks.specs.Hinted.{IsHinted, top_after, top_key};
 ghost use Rattle.chunked_list.specs.Parted.{IsElement};
 
-use crate::bounds::Keyed;
-use crate::chunks::Chunk;
-use crate::hints::{Hints, put_hint};
 use crate::places::Place;
-use crate::tops::set_top;
+use hinted_chunks::{Chunk, Hints, Keyed, lower_to, put_hint, shared_with_top};
 
 /// Puts an element at a place. It takes no memory.
 pub(crate) fn insert_at<T: Keyed + Drop>(
@@ -99,4 +96,20 @@ fn move_half<T: Keyed + Drop>(chunks: &mut Vec<Chunk<T>>, chunk: usize, other: &
 {
     let first = &mut chunks[chunk];
     first.split_into(other);
+}
+
+// Makes the hint of a chunk anew, where an edit at a place brings another element to its front. It takes no memory.
+fn set_top<T: Keyed + Drop>(tops: &mut Hints, chunks: &[Chunk<T>], place: Place, first: &T)
+    requires is { IsHinted (top_key T.key) chunks.now tops.old }
+    requires chunk { place.chunk < length chunks.now }
+    requires room { length chunks.now ≤ vec_capacity tops.old.numbers }
+    ensures is { (chunk : List T)
+        → top_key T.key chunk ≡ top_after T.key (chunk_at chunks.now place.chunk) place.at first.now
+        → IsHinted (top_key T.key) (slice_set chunks.now place.chunk chunk) tops.new }
+    ensures room { vec_capacity tops.new.numbers ≡ vec_capacity tops.old.numbers }
+{
+    if place.at == 0 {
+        lower_to(tops, chunks, shared_with_top(&chunks[0], first));
+        tops.numbers[place.chunk] = first.hint(tops.mark);
+    }
 }

@@ -4,14 +4,13 @@ ghost use Rattle.std.specs.List.{filter};
 ghost use Rattle.std.specs.Option.{option_copied};
 ghost use Rattle.chunked_list.specs.Joined.{joined_chunks};
 ghost use Rattle.chunked_list.specs.Parted.{IsParted, IsFirstOf, is_between};
-ghost use Rattle.tree_clock.specs.Lists.{Has, IsAscending};
+ghost use Rattle.hinted_chunks.specs.tree_clock.Lists.{Has, IsAscending};
 
-use crate::bounds::{Bound, Keyed, Order, Test};
-use crate::chunks::Chunk;
 use crate::places::find;
 use crate::searches::{has_in, insert_in, remove_in};
 use crate::spans::{between_in, filtered_in};
 use crate::stores::{Store, build, empty, make_room};
+use hinted_chunks::{Bound, Chunk, Keyed, Order, Test};
 use std::alloc::{AllocError, Global};
 use std::marker::Model;
 

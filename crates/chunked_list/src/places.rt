@@ -1,18 +1,14 @@
 //! Places in a list of chunks.
 ghost use Rattle.std.specs.Prelude.{◌≡◌, ◌<◌, ◌≤◌, ◌+◌, true, [], length, max, IfSome, IfNone, IsTrue};
-ghost use Rattle.chunked_list.specs.ChunkLimits.{half_limit};
+ghost use Rattle.hinted_chunks.specs.ChunkLimits.{half_limit};
 ghost use Rattle.chunked_list.specs.Joined.{joined_chunks, chunk_at, front_of, back_of};
 ghost use Rattle.chunked_list.specs.Parted.{IsParted, Divides, IsElement};
 ghost use Rattle.chunked_list.specs.Room.{last_half};
 ghost use Rattle.chunked_list.specs.Stores.{AreSized, IsStore, elements_in};
-ghost use Rattle.tree_clock.specs.Lists.{Has};
+ghost use Rattle.hinted_chunks.specs.tree_clock.Lists.{Has};
 
-use crate::bounds::{Bound, Keyed};
-use crate::chunks::Chunk;
-use crate::hints::count_hinted;
-use crate::limits::HALF;
 use crate::stores::Store;
-use crate::tops::Begun;
+use hinted_chunks::{Begun, Bound, Chunk, HALF, Keyed, count_hinted};
 
 /// A place in a list of chunks: in front of an element of a chunk, or behind its last one.
 #[derive(Clone, Copy)]

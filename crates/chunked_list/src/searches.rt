@@ -4,12 +4,11 @@ ghost use Rattle.std.specs.Ordering.{is_lt};
 ghost use Rattle.chunked_list.specs.Joined.{joined_chunks, chunk_at};
 ghost use Rattle.chunked_list.specs.Parted.{Divides, IsElement};
 ghost use Rattle.chunked_list.specs.Stores.{AreSized, IsStore, elements_in, room_in};
-ghost use Rattle.tree_clock.specs.Lists.{Has, IsAscending};
+ghost use Rattle.hinted_chunks.specs.tree_clock.Lists.{Has, IsAscending};
 
-use crate::bounds::{Below, Keyed, Order};
-use crate::chunks::Chunk;
 use crate::places::{Place, find, locate, next_of};
 use crate::stores::{Store, put, take_out};
+use hinted_chunks::{Below, Chunk, Keyed, Order};
 
 /// Whether an ascending list has the element.
 pub(crate) fn has_in<T: Keyed + Drop, O: Order<T>>(store: &Store<T>, order: &O, element: &T) -> bool

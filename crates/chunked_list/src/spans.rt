@@ -5,10 +5,9 @@ ghost use Rattle.chunked_list.specs.Joined.{joined_chunks, back_of};
 ghost use Rattle.chunked_list.specs.Parted.{IsParted, IsElement, HasFailing, is_between};
 ghost use Rattle.chunked_list.specs.Stores.{IsStore, elements_in};
 
-use crate::bounds::{Bound, Keyed, Test};
-use crate::chunks::Chunk;
 use crate::places::{Place, find};
 use crate::stores::Store;
+use hinted_chunks::{Bound, Chunk, Keyed, Test};
 use std::alloc::{AllocError, Global};
 
 /// The elements that aren't before the first bound, and are before the second, in order.

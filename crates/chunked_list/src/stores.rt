@@ -1,17 +1,14 @@
 //! The parts of a list in chunks.
 ghost use Rattle.std.specs.Prelude.{◌≡◌, ◌<◌, ◌≤◌, ◌+◌, ◌-◌, ◌++◌, ◌∷◌, [], length, reverse, max, vec_len, IfOk, OnOk};
 ghost use Rattle.chunked_list.specs.Joined.{chunk_at, with_element, without_element, IsRightBehind};
-ghost use Rattle.chunked_list.specs.ChunkLimits.{chunk_limit, half_limit, chunks_limit};
+ghost use Rattle.hinted_chunks.specs.ChunkLimits.{chunk_limit, half_limit, chunks_limit};
 ghost use Rattle.chunked_list.specs.Room.{last_half, load_of, room_of};
 ghost use Rattle.chunked_list.specs.Parted.{IsElement};
 ghost use Rattle.chunked_list.specs.Stores.{IsStore, elements_in, room_in};
 
-use crate::bounds::Keyed;
-use crate::chunks::Chunk;
 use crate::edits::{insert_at, remove_at, split_at};
-use crate::hints::{Hints, put_hint};
-use crate::limits::{CHUNK_LIMIT, CHUNKS_LIMIT, HALF};
 use crate::places::{Place, count_half, end_of, is_end};
+use hinted_chunks::{CHUNK_LIMIT, CHUNKS_LIMIT, Chunk, HALF, Hints, Keyed, put_hint};
 use std::alloc::{AllocError, Global};
 
 /// The parts of a list in chunks. No chunk is empty or full.

@@ -1,9 +1,9 @@
 use Rattle.std.proofs.Common.{◌∙◌, sym, subst, take, length, ◌<◌, [], arith, rules}
-use Rattle.chunked_list.specs.ChunkLimits.{half_limit}
-use Rattle.chunked_list.specs.Hinted.{AreHinted, top_key}
+use Rattle.hinted_chunks.specs.ChunkLimits.{half_limit}
+use Rattle.hinted_chunks.specs.Hinted.{AreHinted, top_key}
 use Rattle.chunked_list.specs.Joined.{chunk_at}
-use Rattle.chunked_list.proofs.Sharing.{set_same}
-use Rattle.chunked_list.proofs.Topping.{top_take}
+use Rattle.hinted_chunks.proofs.Sharing.{set_same}
+use Rattle.hinted_chunks.proofs.Topping.{top_take}
 use Rattle.chunked_list.proofs.edits.split_at.Goals as goal
 
 pub put_hint-requires-clause-is : goal.put_hint-requires-clause-is

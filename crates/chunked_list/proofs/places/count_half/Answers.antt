@@ -1,6 +1,6 @@
 use Rattle.std.proofs.Common.{◌≡◌, ◌∙◌, ◌<◌, ◌-◌, ap, arith, [], length, rules}
 use Rattle.std.proofs.lemmas.List.{get_or_default}
-use Rattle.chunked_list.specs.ChunkLimits.{half_limit}
+use Rattle.hinted_chunks.specs.ChunkLimits.{half_limit}
 use Rattle.chunked_list.specs.Joined.{chunk_at}
 use Rattle.chunked_list.proofs.Loads.{last_is}
 use Rattle.chunked_list.proofs.places.count_half.Goals as goal

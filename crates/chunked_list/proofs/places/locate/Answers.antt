@@ -1,7 +1,8 @@
 use Rattle.std.proofs.Common.{◌≡◌, ◌∙◌, ◌<◌, true, false, length, sym, subst, [], rules}
 use Rattle.std.proofs.lemmas.List.{get_or_default}
 use Rattle.std.specs.List.Sorted.{IsPartitionPoint, IsPartitionedBy}
-use Rattle.chunked_list.specs.Joined.{chunk_at, first_passes}
+use Rattle.chunked_list.specs.Joined.{chunk_at}
+use Rattle.hinted_chunks.specs.Hinted.{first_passes}
 use Rattle.chunked_list.specs.Parted.{IsParted}
 use Rattle.chunked_list.proofs.Parting.{heads_parted, partitioned, parted_left, parted_right}
 use Rattle.chunked_list.proofs.Placing.{divides, joined_at}

@@ -1,7 +1,7 @@
 use Rattle.std.proofs.Common.{◌≡◌, ◌∙◌, ◌++◌, sym, ap, subst, [], drop, get_or, inl, refl}
 use Rattle.std.proofs.lemmas.List.{get_or_default}
 use Rattle.std.specs.Ordering.{is_eq}
-use Rattle.tree_clock.specs.Lists.{Has}
+use Rattle.hinted_chunks.specs.tree_clock.Lists.{Has}
 use Rattle.chunked_list.specs.Joined.{joined_chunks, front_of, back_of}
 use Rattle.chunked_list.proofs.Placing.{whole}
 use Rattle.chunked_list.proofs.Standing.{stands}

@@ -1,5 +1,5 @@
 use Rattle.std.proofs.Common.{subst}
-use Rattle.tree_clock.specs.Lists.{Has}
+use Rattle.hinted_chunks.specs.tree_clock.Lists.{Has}
 use Rattle.chunked_list.specs.Joined.{joined_chunks, front_of, back_of}
 use Rattle.chunked_list.proofs.Parting.{parted_ascending}
 use Rattle.chunked_list.proofs.Placing.{whole}

@@ -1,6 +1,6 @@
 use Rattle.std.proofs.Common.{◌∙◌, ◌++◌, sym, ap, subst, map}
-use Rattle.mld_ops.proofs.AscendingLaws.{has_at}
-use Rattle.tree_clock.specs.Lists.{Has}
+use Rattle.hinted_chunks.proofs.of_mld_ops.AscendingLaws.{has_at}
+use Rattle.hinted_chunks.specs.tree_clock.Lists.{Has}
 use Rattle.chunked_list.proofs.Between.{filter_stops}
 use Rattle.chunked_list.proofs.spans.add_elements.Goals as goal
 

@@ -1,5 +1,5 @@
 use Rattle.std.proofs.Common.{◌≡◌, ◌≤◌, ◌+◌, ◌-◌, vec_len, vec_capacity}
-use Rattle.chunked_list.specs.ChunkLimits.{chunks_limit}
+use Rattle.hinted_chunks.specs.ChunkLimits.{chunks_limit}
 use Rattle.chunked_list.specs.Stores.{IsStore}
 use Rattle.chunked_list.proofs.stores.fill_spare.Given as goal
 

@@ -1,6 +1,6 @@
 use Rattle.std.proofs.Common.{◌≡◌, ◌∙◌, ◌++◌, ◌∷◌, [], sym, ap, subst, arith, insert, length}
 use Rattle.std.proofs.lemmas.List.Edits.{insert_end}
-use Rattle.chunked_list.specs.Hinted.{AreHinted, top_key}
+use Rattle.hinted_chunks.specs.Hinted.{AreHinted, top_key}
 use Rattle.chunked_list.specs.Room.{load_of}
 use Rattle.chunked_list.proofs.Loads.{behind_load, room_taken}
 use Rattle.chunked_list.proofs.Splitting.{behind_sized, behind_excess, behind_joined, behind_count, spare_left, spare_last}

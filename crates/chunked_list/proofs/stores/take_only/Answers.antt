@@ -1,13 +1,13 @@
 use Rattle.std.proofs.Common.{◌≡◌, ◌∙◌, ◌<◌, ◌≤◌, ◌+◌, sym, ap, subst, arith, [], length}
 use Rattle.std.proofs.lemmas.List.{get_or_default, nil_from_length}
 use Rattle.chunked_list.specs.Joined.{joined_chunks}
-use Rattle.chunked_list.specs.Hinted.{top_key}
+use Rattle.hinted_chunks.specs.Hinted.{top_key}
 use Rattle.chunked_list.specs.Stores.{AreSized}
 use Rattle.chunked_list.specs.Room.{excess_of, load_of}
 use Rattle.chunked_list.proofs.Loads.{gone_load, last_load, room_given, room_less}
 use Rattle.chunked_list.proofs.Splitting.{spare_more}
 use Rattle.chunked_list.proofs.Storing.{joined_only, count_remove, excess_remove, length_take, sized_remove}
-use Rattle.chunked_list.proofs.Sharing.{taken_hinted}
+use Rattle.hinted_chunks.proofs.Sharing.{taken_hinted}
 use Rattle.chunked_list.proofs.stores.take_only.Goals as goal
 
 pub returns-then-place-len-clause-is : goal.returns-then-place-len-clause-is

@@ -1,6 +1,6 @@
 use Rattle.std.proofs.Common.{◌≡◌, ◌∙◌, ◌++◌, [], sym, subst, ap, get_or, inl, refl, drop, None, Some}
 use Rattle.std.proofs.lemmas.List.{get_or_default}
-use Rattle.tree_clock.specs.Lists.{Has}
+use Rattle.hinted_chunks.specs.tree_clock.Lists.{Has}
 use Rattle.chunked_list.specs.Joined.{joined_chunks, front_of, back_of}
 use Rattle.chunked_list.specs.Parted.{IsFirstOf}
 use Rattle.chunked_list.proofs.Placing.{whole}

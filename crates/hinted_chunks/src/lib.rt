@@ -1,0 +1,18 @@
+//! Chunks of a list, with a number beside each element that tells of its text, so that a search seldom looks at an element itself.
+#![tactic(auto)]
+
+mod bounds;
+mod chunks;
+mod hints;
+mod keys;
+mod limits;
+mod tops;
+
+pub use bounds::{Below, Bound, Keyed, Order, Test};
+pub use chunks::Chunk;
+pub use hints::{Hints, count_hinted, lower_to, put_hint};
+pub use keys::{closed_hint, closed_shared};
+pub use limits::{CHUNK_LIMIT, CHUNKS_LIMIT, HALF};
+pub use mld_ops;
+pub use tops::{Begun, shared_with_top};
+pub use tree_clock;
