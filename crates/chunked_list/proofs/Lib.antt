@@ -7,3 +7,4 @@ pub mod Loads
 pub mod Splitting
 pub mod Standing
 pub mod Between
+pub mod Counting

@@ -1,6 +1,7 @@
 //! Ascending lists in chunks of bounded length: an insert moves one chunk, and not all that is behind it.
 #![tactic(auto)]
 
+mod counted;
 mod edits;
 mod lists;
 mod places;

@@ -1,11 +1,12 @@
 //! Ascending lists in chunks.
-ghost use Rattle.std.specs.Prelude.{◌≡◌, ◌<◌, ◌≤◌, ◌+◌, ◌⊎◌, ◌↔◌, [], length, map, IsTrue, IfOk, OnOk};
+ghost use Rattle.std.specs.Prelude.{◌≡◌, ◌<◌, ◌≤◌, ◌+◌, ◌-◌, ◌⊎◌, ◌↔◌, ◌∷◌, [], length, map, take, drop, IsTrue, IfOk, OnOk};
 ghost use Rattle.std.specs.List.{filter};
 ghost use Rattle.std.specs.Option.{option_copied};
 ghost use Rattle.chunked_list.specs.Joined.{joined_chunks};
 ghost use Rattle.chunked_list.specs.Parted.{IsParted, IsFirstOf, is_between};
 ghost use Rattle.hinted_chunks.specs.tree_clock.Lists.{Has, IsAscending};
 
+use crate::counted::{place_of, span_of};
 use crate::places::find;
 use crate::searches::{has_in, insert_in, remove_in};
 use crate::spans::{between_in, filtered_in};
@@ -62,6 +63,24 @@ impl<T: Keyed + Drop> Chunked<T> {
         ensures { joined_chunks result.now ≡ self.now.elements }
     {
         self.store.chunks.as_slice()
+    }
+
+    /// The element before which so many stand.
+    pub fn at(&self, place: usize) -> &T
+        requires { place < length self.now.elements }
+        ensures { drop place self.now.elements ≡ result.now ∷ drop (place + 1) self.now.elements }
+    {
+        let place = place_of(&self.store, place);
+        &self.store.chunks[place.chunk].as_slice()[place.at]
+    }
+
+    /// The elements from one place to before another, in order. It looks at no others but those of the chunk where they begin.
+    pub fn from_to(&self, alloc: Global, from: usize, to: usize) -> Result<Vec<&T>, AllocError>
+        requires from { from ≤ to }
+        requires to { to ≤ length self.now.elements }
+        ensures { IfOk result (λ found. map (λ x. x.now) found.items ≡ take (to - from) (drop from self.now.elements)) }
+    {
+        span_of(alloc, &self.store, from, to)
     }
 
     /// The first element that isn't before the bound.
