@@ -8,3 +8,4 @@ pub mod Splitting
 pub mod Standing
 pub mod Between
 pub mod Counting
+pub mod Starting

@@ -13,7 +13,7 @@ module _ {X : Type 0} (chunks items new : List (List X)) (c at : ℕ) (x : X) (l
   inside : items ≡ set chunks c (insert (chunk_at chunks c) at x) → c < length items
   inside i = let n : length items ≡ length chunks = ap length i ∙ length-set chunks c (insert (chunk_at chunks c) at x) in omega (arith, n, l)
 
-  is_full : length (chunk_at chunks c) + 1 ≡ chunk_limit → items ≡ set chunks c (insert (chunk_at chunks c) at x) → length (chunk_at items c) ≡ chunk_limit
+  pub is_full : length (chunk_at chunks c) + 1 ≡ chunk_limit → items ≡ set chunks c (insert (chunk_at chunks c) at x) → length (chunk_at items c) ≡ chunk_limit
   is_full f i = ap (λ zs. length (chunk_at zs c)) i ∙ ap length (at_set chunks c (insert (chunk_at chunks c) at x) l) ∙ length_put (chunk_at chunks c) at x ∙ f
 
   pub split_excess : length (chunk_at chunks c) + 1 ≡ chunk_limit → items ≡ set chunks c (insert (chunk_at chunks c) at x) → new ≡ split_of items c → excess_of new + (half_limit - 1) ≡ excess_of chunks

@@ -5,6 +5,7 @@ ghost use Rattle.chunked_list.specs.Parted.{IsElement};
 ghost use Rattle.chunked_list.specs.Stores.{IsStore, elements_in};
 
 use crate::places::Place;
+use crate::starts::last_at_most;
 use crate::stores::Store;
 use hinted_chunks::{Chunk, Keyed};
 use std::alloc::{AllocError, Global};
@@ -16,21 +17,8 @@ pub(crate) fn place_of<T: Keyed + Drop>(store: &Store<T>, count: usize) -> Place
     ensures element { IsElement store.now.chunks.items result.chunk result.at }
     ensures front { length (front_of store.now.chunks.items result.chunk result.at) ≡ count }
 {
-    walk_to(&store.chunks, count)
-}
-
-// The place of the element before which so many stand.
-fn walk_to<T: Keyed + Drop>(chunks: &[Chunk<T>], count: usize) -> Place
-    requires { count < length (joined_chunks chunks.now) }
-    ensures element { IsElement chunks.now result.chunk result.at }
-    ensures front { length (front_of chunks.now result.chunk result.at) ≡ count }
-{
-    let mut chunk = 0;
-    let mut at = count;
-    while at >= chunks[chunk].len() {
-        at -= chunks[chunk].len();
-        chunk += 1;
-    }
+    let chunk = last_at_most(&store.starts, count);
+    let at = count - store.starts[chunk];
     Place { chunk, at }
 }
 

@@ -7,6 +7,7 @@ mod lists;
 mod places;
 mod searches;
 mod spans;
+mod starts;
 mod stores;
 
 pub use hinted_chunks;

@@ -8,6 +8,7 @@ ghost use Rattle.chunked_list.specs.Stores.{IsStore, elements_in, room_in};
 
 use crate::edits::{insert_at, remove_at, split_at};
 use crate::places::{Place, count_half, end_of, is_end};
+use crate::starts::{put_half, shift};
 use hinted_chunks::{CHUNK_LIMIT, CHUNKS_LIMIT, Chunk, HALF, Hints, Keyed, put_hint};
 use std::alloc::{AllocError, Global};
 
@@ -18,6 +19,8 @@ pub(crate) struct Store<T: Keyed> {
     pub(crate) chunks: Vec<Chunk<T>>,
     /// The hints of the chunks.
     pub(crate) tops: Hints,
+    /// How many elements stand before each chunk.
+    pub(crate) starts: Vec<usize>,
     /// Empty chunks, for those that come to be full.
     pub(crate) spare: Vec<Chunk<T>>,
     /// By how many elements the chunks pass their halves, summed up.
@@ -62,6 +65,7 @@ fn put_behind<T: Keyed + Drop>(store: &mut Store<T>, element: T)
         chunk.insert(0, element);
         put_hint(&mut store.tops, &store.chunks, store.chunks.len(), &chunk);
         store.chunks.push_reserved(chunk);
+        store.starts.push_reserved(store.count);
         store.count += 1;
     }
 }
@@ -78,6 +82,7 @@ fn put_within<T: Keyed + Drop>(store: &mut Store<T>, place: Place, element: T)
 {
     let before = store.chunks[place.chunk].len();
     insert_at(&mut store.chunks, &mut store.tops, place, element);
+    shift(&mut store.starts, place.chunk + 1, 0, 1);
     store.count += 1;
     store.excess = store.excess - over(before) + over(before + 1);
 }
@@ -103,6 +108,8 @@ fn put_and_split<T: Keyed + Drop>(store: &mut Store<T>, place: Place, element: T
     if let Some(spare) = store.spare.pop() {
         insert_at(&mut store.chunks, &mut store.tops, place, element);
         split_at(&mut store.chunks, &mut store.tops, place.chunk, spare);
+        shift(&mut store.starts, place.chunk + 1, 0, 1);
+        put_half(&mut store.starts, place.chunk);
         store.count += 1;
         store.excess -= HALF - 1;
     }
@@ -134,6 +141,8 @@ fn take_only<T: Keyed + Drop>(store: &mut Store<T>, place: Place) -> T
     ensures room { room_in store.old ≤ room_in store.new }
 {
     let _ = store.tops.numbers.remove(place.chunk);
+    let _ = store.starts.remove(place.chunk);
+    shift(&mut store.starts, place.chunk, 1, 0);
     let mut chunk = store.chunks.remove(place.chunk);
     let element = chunk.remove(place.at);
     store.count -= 1;
@@ -155,6 +164,7 @@ fn take_within<T: Keyed + Drop>(store: &mut Store<T>, place: Place) -> T
 {
     let before = store.chunks[place.chunk].len();
     let element = remove_at(&mut store.chunks, &mut store.tops, place);
+    shift(&mut store.starts, place.chunk + 1, 1, 0);
     store.count -= 1;
     store.excess = store.excess - over(before) + over(before - 1);
     element
@@ -206,6 +216,7 @@ fn fill_spare<T: Keyed + Drop>(
 {
     store.chunks.reserve(wanted)?;
     store.tops.numbers.reserve(wanted)?;
+    store.starts.reserve(wanted)?;
     store.spare.reserve(store.chunks.len() + wanted)?;
     while store.spare.len() < wanted {
         let chunk = Chunk::new(alloc)?;
@@ -225,6 +236,7 @@ pub(crate) fn empty<T: Keyed + Drop>(alloc: Global) -> Store<T>
             mark: usize::MAX,
             numbers: Vec::new(alloc),
         },
+        starts: Vec::new(alloc),
         spare: Vec::new(alloc),
         excess: 0,
         count: 0,

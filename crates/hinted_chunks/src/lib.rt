@@ -10,7 +10,7 @@ mod tops;
 
 pub use bounds::{Below, Bound, Keyed, Order, Test};
 pub use chunks::Chunk;
-pub use hints::{Hints, count_hinted, lower_to, put_hint};
+pub use hints::{Hints, count_hinted, lower_to, put_hint, put_in};
 pub use keys::{closed_hint, closed_shared};
 pub use limits::{CHUNK_LIMIT, CHUNKS_LIMIT, HALF};
 pub use mld_ops;

@@ -10,6 +10,7 @@ invariant-loop-alloc g l = record {
   kept : vec_len l.initial.store.spare ≤ vec_len l.store.spare;
   chunk_room : vec_len l.store.chunks + l.wanted ≤ vec_capacity l.store.chunks;
   tops_room : vec_len l.store.chunks + l.wanted ≤ vec_capacity l.store.tops.numbers;
+  starts_room : vec_len l.store.chunks + l.wanted ≤ vec_capacity l.store.starts;
   spare_room : vec_len l.store.chunks + l.wanted ≤ vec_capacity l.store.spare;
   few : vec_len l.store.chunks + l.wanted ≤ chunks_limit;
 }

@@ -5,6 +5,7 @@ use Rattle.chunked_list.specs.Room.{load_of}
 use Rattle.chunked_list.proofs.Loads.{behind_load, room_taken}
 use Rattle.chunked_list.proofs.Splitting.{behind_sized, behind_excess, behind_joined, behind_count, spare_left, spare_last}
 use Rattle.chunked_list.proofs.Storing.{count_bound}
+use Rattle.chunked_list.proofs.Starting.{starts_behind}
 use Rattle.chunked_list.proofs.stores.put_behind.Goals as goal
 
 pub overflow_add-store : goal.overflow_add-store
@@ -33,6 +34,8 @@ returns-in-Some-clause-is g c =
           (ap (λ zs. insert zs c.len.result chunk) c.deref.ensures.value ∙ ap (λ at. insert old at chunk) n ∙ insert_end old chunk ∙ sym c.push_reserved.ensures.items)
           c.put_hint.ensures.is;
       tops_room = omega (arith, c.push_reserved.ensures.len, c.put_hint.ensures.room, c.in-Some.ensures.cases, c.requires.is.tops_room);
+      starts = starts_behind old new c.args.store.now.starts.items c.push_reserved-in-Some.new.self.items chunk c.args.store.now.count c.requires.is.starts c.push_reserved.ensures.items c.push_reserved-in-Some.ensures.items c.requires.is.count;
+      starts_room = omega (arith, c.push_reserved.ensures.len, c.push_reserved-in-Some.ensures.capacity, c.in-Some.ensures.cases, c.requires.is.starts_room);
       few = omega (arith, c.push_reserved.ensures.len, c.in-Some.ensures.cases, c.requires.is.few);
     }
 

@@ -8,7 +8,13 @@ use Rattle.chunked_list.proofs.Loads.{gone_load, last_load, room_given, room_les
 use Rattle.chunked_list.proofs.Splitting.{spare_more}
 use Rattle.chunked_list.proofs.Storing.{joined_only, count_remove, excess_remove, length_take, sized_remove}
 use Rattle.hinted_chunks.proofs.Sharing.{taken_hinted}
+use Rattle.chunked_list.proofs.Starting.{may_shrink_left, moved, starts_remove}
 use Rattle.chunked_list.proofs.stores.take_only.Goals as goal
+
+pub shift-requires-clause-fits : goal.shift-requires-clause-fits
+shift-requires-clause-fits g c i h l =
+    may_shrink_left c.args.store.now.chunks.items c.args.store.now.starts.items c.requires.is.starts c.requires.is.sized (omega (arith, c.requires.is.few)) c.args.place.chunk c.remove-2.new.self.items c.remove-2.ensures.items
+    c.requires.element.chunk_is (omega (arith, c.requires.only)) i h (omega (arith, l))
 
 pub returns-then-place-len-clause-is : goal.returns-then-place-len-clause-is
 returns-then-place-len-clause-is g c =
@@ -33,6 +39,9 @@ returns-then-place-len-clause-is g c =
       tops = taken_hinted (top_key g.T.Keyed.key) c.args.store.now.tops.mark c.args.place.chunk c.args.store.now.chunks.items c.remove-chunk.new.self.items c.args.store.now.tops.numbers.items c.remove.new.self.items
           c.requires.is.tops i c.remove.ensures.items;
       tops_room = omega (arith, c.remove-chunk.ensures.len, c.remove.ensures.capacity, c.push_reserved.ensures.len, c.requires.is.tops_room);
+      starts = starts_remove c.args.store.now.chunks.items c.remove-chunk.new.self.items c.args.store.now.starts.items c.shift.new.starts.items c.args.place.chunk c.requires.is.starts l c.requires.only i
+          (c.shift.ensures.items ∙ ap (moved 1 0 c.args.place.chunk) c.remove-2.ensures.items);
+      starts_room = omega (arith, c.remove-chunk.ensures.len, c.push_reserved.ensures.len, c.remove-2.ensures.capacity, c.shift.ensures.capacity, c.requires.is.starts_room);
       few = omega (arith, c.remove-chunk.ensures.len, c.push_reserved.ensures.len, c.requires.is.few);
     }
 
@@ -66,6 +75,9 @@ returns-else-place-len-clause-is g c =
       tops = taken_hinted (top_key g.T.Keyed.key) c.args.store.now.tops.mark c.args.place.chunk c.args.store.now.chunks.items c.remove-chunk.new.self.items c.args.store.now.tops.numbers.items c.remove.new.self.items
           c.requires.is.tops i c.remove.ensures.items;
       tops_room = omega (arith, c.remove-chunk.ensures.len, c.remove.ensures.capacity, c.requires.is.tops_room);
+      starts = starts_remove c.args.store.now.chunks.items c.remove-chunk.new.self.items c.args.store.now.starts.items c.shift.new.starts.items c.args.place.chunk c.requires.is.starts l c.requires.only i
+          (c.shift.ensures.items ∙ ap (moved 1 0 c.args.place.chunk) c.remove-2.ensures.items);
+      starts_room = omega (arith, c.remove-chunk.ensures.len, c.remove-2.ensures.capacity, c.shift.ensures.capacity, c.requires.is.starts_room);
       few = omega (arith, c.remove-chunk.ensures.len, c.requires.is.few);
     }
 
