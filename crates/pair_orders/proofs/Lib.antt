@@ -1,0 +1,13 @@
+pub mod Changing
+pub mod Dividing
+pub mod Finding
+pub mod Fronting
+pub mod Halving
+pub mod Holding
+pub mod Leading
+pub mod Lending
+pub mod Matching
+pub mod Narrowing
+pub mod Once
+pub mod Pieces
+pub mod Slotting

@@ -1,0 +1,62 @@
+-- What numbered pairs keep: slots, and keys in four orders. The invariant of `NumberedPairs`, and the private calls, cite it.
+use Rattle.std.specs.Prelude.{◌≡◌, ℕ, ◌+◌, ◌<◌, ◌≤◌, List, ◌↔◌, Option, None, IsSome, length, min, vec_len, vec_capacity}
+use Rattle.mld_ops.specs.declared.tagged.Tagged.{Tagged}
+use Rattle.tree_clock.specs.Lists.{Has, IsAscending}
+use Rattle.pair_orders.specs.Keys.{shape_cmp, key_numbers, slot_at}
+use Rattle.pair_orders.specs.PairEntries.{StandOnce, PairsValue, entries_of}
+use Rattle.pair_orders.specs.SlotLimit.{slots_limit}
+use Rattle.pair_orders.specs.declared.keys.Key.{Key}
+use Rattle.pair_orders.specs.declared.keys.Shape.{Shape}
+use Rattle.pair_orders.specs.declared.keys.Shape.TheVariants.{Dot, Subject, Predicate, Object}
+use Rattle.pair_orders.specs.declared.lists.Lists.{Lists}
+use Rattle.pair_orders.specs.declared.slots.Slots.{Slots}
+
+-- the numbers are those of empty slots, each once
+pub record AreFree (slots : List (Option Tagged)) (free : List ℕ) : Type 0 where
+  pub within : (slot : ℕ) → Has free slot → slot < length slots
+  pub empty : (slot : ℕ) → Has free slot → slot_at slots slot ≡ None
+  pub once : StandOnce free
+
+-- slots that a number has room for, of which the free ones are known
+pub record AreSlots (slots : Slots) : Type 0 where
+  pub free_are : AreFree slots.pairs.items slots.free.items
+  pub few : vec_len slots.pairs ≤ slots_limit
+
+-- one slot was given another content
+pub record PutsAt (old new : List (Option Tagged)) (slot : ℕ) (content : Option Tagged) : Type 0 where
+  pub here : slot_at new slot ≡ content
+  pub elsewhere : (other : ℕ) → ¬ (other ≡ slot) → slot_at new other ≡ slot_at old other
+
+-- keys stand in an order, the same that stand by dot
+pub record AreKeysOf (shape : Shape) (keys dots : List Key) : Type 0 where
+  pub ascending : IsAscending (shape_cmp shape) keys
+  pub same : (key : Key) → Has keys key ↔ Has dots key
+
+-- so they do in each list
+pub record AreLists (lists : Lists) : Type 0 where
+  pub dot : IsAscending (shape_cmp Dot) lists.dot.elements
+  pub subject : AreKeysOf Subject lists.subject.elements lists.dot.elements
+  pub predicate : AreKeysOf Predicate lists.predicate.elements lists.dot.elements
+  pub object : AreKeysOf Object lists.object.elements lists.dot.elements
+
+-- how many keys can come into each without memory
+abbrev pub lists_room : Lists → ℕ
+lists_room lists = min (min lists.dot.room lists.subject.room) (min lists.predicate.room lists.object.room)
+
+-- the keys have pairs in slots, no two in one slot, and no two have the same numbers
+pub record AreHeld (slots : List (Option Tagged)) (keys : List Key) : Type 0 where
+  pub occupied : (key : Key) → Has keys key → IsSome (slot_at slots key.slot)
+  pub slots_apart : (a b : Key) → Has keys a → Has keys b → a.slot ≡ b.slot → a ≡ b
+  pub numbers_apart : (a b : Key) → Has keys a → Has keys b → key_numbers a ≡ key_numbers b → a ≡ b
+
+-- what numbered pairs keep: each slot is a key's or a free one, and each can be let go without memory
+pub record IsPairs (slots : Slots) (lists : Lists) : Type 0 where
+  pub slots_are : AreSlots slots
+  pub lists_are : AreLists lists
+  pub held : AreHeld slots.pairs.items lists.dot.elements
+  pub none_lost : length lists.dot.elements + vec_len slots.free ≡ vec_len slots.pairs
+  pub free_room : vec_len slots.pairs ≤ vec_capacity slots.free
+
+-- their value
+abbrev pub pairs_value : Slots → Lists → PairsValue
+pairs_value slots lists = record { pairs = entries_of slots.pairs.items lists.dot.elements; room = min (vec_len slots.free) (lists_room lists) }

@@ -1,0 +1,6 @@
+pub mod KeyFronts
+pub mod Keys
+pub mod Orders
+pub mod PairEntries
+pub mod SlotLimit
+pub mod KeptPairs

@@ -1,0 +1,45 @@
+-- What contracts see of numbered pairs, and what is found of them. The calls of `NumberedPairs` cite it.
+use Rattle.std.specs.Prelude.{◌≡◌, ℕ, List, [], ◌∷◌, ◌↔◌, Bool, ◌&&◌, IsTrue, nat_eq, nat_le, map, Option, filter_map}
+use Rattle.std.specs.Option.{option_map}
+use Rattle.mld_ops.specs.declared.tagged.Tagged.{Tagged}
+use Rattle.tree_clock.specs.Lists.{Has}
+use Rattle.pair_orders.specs.Keys.{key_numbers, slot_at}
+use Rattle.pair_orders.specs.declared.keys.Key.{Key}
+use Rattle.pair_orders.specs.declared.keys.Numbers.{Numbers}
+
+-- pairs with their numbers, and how many can come in without memory
+pub record PairsValue : Type 0 where
+  pub pairs : List (Numbers × Tagged)
+  pub room : ℕ
+
+-- the numbers of a key, with the pair in its slot
+abbrev pub keyed_entry : List (Option Tagged) → Key → Option (Numbers × Tagged)
+keyed_entry slots key = option_map (λ pair. (key_numbers key, pair)) (slot_at slots key.slot)
+
+-- those of keys, in order
+abbrev pub entries_of : List (Option Tagged) → List Key → List (Numbers × Tagged)
+entries_of slots keys = filter_map (keyed_entry slots) keys
+
+-- some pair has the numbers
+abbrev pub HasNumbers : List (Numbers × Tagged) → Numbers → Type 0
+HasNumbers pairs numbers = (pair : Tagged) × Has pairs (numbers, pair)
+
+-- some pair has the numbers of terms
+abbrev pub HasTerms : List (Numbers × Tagged) → ℕ → ℕ → ℕ → Type 0
+HasTerms pairs s p o = (entry : Numbers × Tagged) × Has pairs entry × (entry.0.s ≡ s) × (entry.0.p ≡ p) × (entry.0.o ≡ o)
+
+-- the path is this one, and the tick is one of the range
+abbrev pub is_of_ticks : ℕ → ℕ → ℕ → Numbers → Bool
+is_of_ticks path first last numbers = nat_eq numbers.path path && (nat_le first numbers.tick && nat_le numbers.tick last)
+
+-- nothing stands twice in the list
+abbrev pub StandOnce : {X : Type 0} → List X → Type 0
+StandOnce [] = Unit {0}
+StandOnce (x ∷ xs) = (¬ Has xs x) × StandOnce xs
+
+-- those of the pairs whose numbers pass the test are found, each once, in whatever order
+pub record FindsEntries (test : Numbers → Bool) (pairs : List (Numbers × Tagged)) (found : List Tagged) : Type 0 where
+  pub entries : List (Numbers × Tagged)
+  pub are : map (λ entry. entry.1) entries ≡ found
+  pub members : (entry : Numbers × Tagged) → Has entries entry ↔ (Has pairs entry × IsTrue (test entry.0))
+  pub once : StandOnce (map (λ entry. entry.0) entries)

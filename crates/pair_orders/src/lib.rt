@@ -1,0 +1,21 @@
+//! Pairs by the numbers of their terms: each stands once, in a slot, and its key stands in four orders.
+#![tactic(auto)]
+
+mod changes;
+mod finds;
+mod fronts;
+mod keys;
+mod lends;
+mod limits;
+mod lists;
+mod orders;
+mod pairs;
+mod searches;
+mod slots;
+mod steps;
+
+pub use keys::{Numbers, Places, Shape};
+pub use orders::KeyOrder;
+pub use pairs::NumberedPairs;
+pub use searches::search;
+pub use steps::CountedSteps;

@@ -1,0 +1,134 @@
+//! An order of pairs.
+ghost use Rattle.std.specs.Prelude.{◌≡◌, ◌<◌, ◌≤◌, ◌+◌, ◌-◌, map, length, take, drop, IfOk, OnOk};
+ghost use Rattle.std.specs.List.{slice_index_or};
+ghost use Rattle.pair_orders.specs.Keys.{wanted_then, places_cmp};
+ghost use Rattle.pair_orders.specs.Orders.{IsOrder};
+ghost use Rattle.pair_orders.specs.PairEntries.{entries_of};
+
+use crate::keys::{Key, Places, Shape};
+use crate::lends::add_pair;
+use crate::steps::CountedSteps;
+use chunked_list::Chunked;
+use mld_ops::Tagged;
+use std::alloc::{AllocError, Global};
+use std::cmp::Ordering;
+use std::marker::Model;
+use std::sync::ledger::Ledger;
+
+/// An order of pairs. It shows them by two calls alone, and both count their steps.
+#[derive(Drop)]
+pub struct KeyOrder<'a> {
+    pub(crate) shape: Shape,
+    pub(crate) keys: &'a Chunked<Key>,
+    pub(crate) slots: &'a [Option<Tagged>],
+}
+
+impl<'a> Model for KeyOrder<'a> {
+    ghost use Rattle.pair_orders.specs.Orders.{OrderValue, IsOrder};
+
+    ghost Value = { OrderValue };
+
+    ghost view = { λ order. record { shape = order.shape; keys = order.keys.now.elements; slots = order.slots.now } };
+
+    ghost invariant = { λ order. IsOrder order.shape order.keys.now.elements order.slots.now };
+}
+
+impl<'a> KeyOrder<'a> {
+    /// The number of keys, which ascend and have pairs in their slots.
+    pub fn len(&self) -> usize
+        ensures len { result ≡ length self.now.keys }
+        ensures order { IsOrder self.now.shape self.now.keys self.now.slots }
+    {
+        self.keys.len()
+    }
+
+    /// How wanted places compare with the key at a place. It is one step.
+    pub fn compare<L: Ledger>(
+        &self,
+        at: usize,
+        wanted: &Places,
+        steps: &mut CountedSteps<L>,
+    ) -> Ordering
+        requires { at < length self.now.keys }
+        ensures order { (none : Key) → result ≡ places_cmp self.now.shape wanted.now (slice_index_or self.now.keys at none) }
+        ensures step { steps.new ≡ steps.old + 1 }
+    {
+        steps.tick();
+        compare_places(self.shape, wanted, self.keys.at(at))
+    }
+
+    /// The pairs from one place to before another, in order. Each is a step.
+    pub fn between<L: Ledger>(
+        &self,
+        alloc: Global,
+        from: usize,
+        to: usize,
+        steps: &mut CountedSteps<L>,
+    ) -> Result<Vec<&'a Tagged>, AllocError>
+        requires from { from ≤ to }
+        requires to { to ≤ length self.now.keys }
+        ensures pairs { IfOk result (λ found. map (λ x. x.now) found.items
+            ≡ map (λ entry. entry.1) (entries_of self.now.slots (take (to - from) (drop from self.now.keys)))) }
+        ensures step { OnOk result (steps.new ≡ steps.old + (to - from)) }
+        ensures most { steps.new ≤ steps.old + (to - from) }
+    {
+        let keys = self.keys.from_to(alloc, from, to)?;
+        lend_pairs(alloc, self.slots, &keys, steps)
+    }
+}
+
+// How wanted places compare with a key, as far as they are wanted from the front.
+fn compare_places(shape: Shape, wanted: &Places, key: &Key) -> Ordering
+    ensures { result ≡ places_cmp shape wanted.now key.now }
+{
+    let Places { s, p, o } = *wanted;
+    let end = Ordering::Equal;
+    match shape {
+        Shape::Dot => end,
+        Shape::Subject => compare_wanted(
+            s,
+            key.s,
+            compare_wanted(p, key.p, compare_wanted(o, key.o, end)),
+        ),
+        Shape::Predicate => compare_wanted(
+            p,
+            key.p,
+            compare_wanted(o, key.o, compare_wanted(s, key.s, end)),
+        ),
+        Shape::Object => compare_wanted(
+            o,
+            key.o,
+            compare_wanted(s, key.s, compare_wanted(p, key.p, end)),
+        ),
+    }
+}
+
+// How a wanted number compares with that of a key, and then the next ones do. Where none is wanted all are alike.
+fn compare_wanted(wanted: Option<u64>, number: u32, next: Ordering) -> Ordering
+    ensures { result ≡ wanted_then wanted number next }
+{
+    match wanted {
+        Some(wanted) => wanted.cmp(&u64::from(number)).then(next),
+        None => Ordering::Equal,
+    }
+}
+
+// The pairs of keys. Each is a step.
+fn lend_pairs<'a, L: Ledger>(
+    alloc: Global,
+    slots: &'a [Option<Tagged>],
+    keys: &[&Key],
+    steps: &mut CountedSteps<L>,
+) -> Result<Vec<&'a Tagged>, AllocError>
+    ensures pairs { IfOk result (λ found. map (λ x. x.now) found.items
+        ≡ map (λ entry. entry.1) (entries_of slots.now (map (λ x. x.now) keys.now))) }
+    ensures step { OnOk result (steps.new ≡ steps.old + length keys.now) }
+    ensures most { steps.new ≤ steps.old + length keys.now }
+{
+    let mut found = Vec::with_capacity(alloc, keys.len())?;
+    for key in keys {
+        steps.tick();
+        add_pair(&mut found, slots, key)?;
+    }
+    Ok(found)
+}

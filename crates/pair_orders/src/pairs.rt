@@ -1,0 +1,168 @@
+//! Pairs by their numbers.
+ghost use Rattle.std.specs.Prelude.{◌≡◌, ◌<◌, ◌≤◌, ◌+◌, ◌*◌, ◌⊎◌, ◌↔◌, [], length, map, IsTrue, IfOk, OnOk};
+ghost use Rattle.std.specs.List.{filter};
+ghost use Rattle.mld_ops.specs.declared.tagged.Tagged.{Tagged};
+ghost use Rattle.tree_clock.specs.Lists.{Has};
+ghost use Rattle.pair_orders.specs.Keys.{has_places};
+ghost use Rattle.pair_orders.specs.Orders.{binary_digits, entries_with};
+ghost use Rattle.pair_orders.specs.PairEntries.{FindsEntries, StandOnce, HasNumbers, HasTerms, entries_of, is_of_ticks};
+ghost use Rattle.pair_orders.specs.declared.keys.Numbers.{Numbers};
+
+use crate::changes::{insert_in, prepare_for, remove_in};
+use crate::finds::{find_slot, has_terms};
+use crate::fronts::{BeforeFront, UpToFront};
+use crate::keys::{Numbers, Places, Shape};
+use crate::lends::{lend_chunks, lend_found};
+use crate::lists::{Lists, keys_in, no_lists};
+use crate::orders::KeyOrder;
+use crate::searches::search;
+use crate::slots::{Slots, no_slots};
+use crate::steps::CountedSteps;
+use mld_ops::Tagged;
+use std::alloc::{AllocError, Global};
+use std::marker::Model;
+use std::sync::ledger::Ledger;
+
+/// Pairs by their numbers: each stands once, in a slot. Contracts see them by dot, and how many more can come in without memory.
+#[derive(Drop)]
+pub struct NumberedPairs {
+    slots: Slots,
+    lists: Lists,
+}
+
+impl Model for NumberedPairs {
+    ghost use Rattle.pair_orders.specs.PairEntries.{PairsValue};
+    ghost use Rattle.pair_orders.specs.KeptPairs.{IsPairs, pairs_value};
+
+    ghost Value = { PairsValue };
+
+    ghost view = { λ pairs. pairs_value pairs.slots pairs.lists };
+
+    ghost invariant = { λ pairs. IsPairs pairs.slots pairs.lists };
+}
+
+impl NumberedPairs {
+    /// No pair.
+    pub fn new(alloc: Global) -> NumberedPairs
+        ensures { result.pairs ≡ [] }
+    {
+        NumberedPairs {
+            slots: no_slots(alloc),
+            lists: no_lists(alloc),
+        }
+    }
+
+    /// The number of pairs, of which no two have the same numbers.
+    pub fn len(&self) -> usize
+        ensures len { result ≡ length self.now.pairs }
+        ensures once { StandOnce (map (λ entry. entry.0) self.now.pairs) }
+    {
+        self.lists.dot.len()
+    }
+
+    /// Makes room for so many pairs more.
+    pub fn prepare(&mut self, alloc: Global, more: usize) -> Result<(), AllocError>
+        ensures pairs { self.new.pairs ≡ self.old.pairs }
+        ensures ok { OnOk result (more ≤ self.new.room) }
+        ensures kept { self.old.room ≤ self.new.room }
+    {
+        prepare_for(alloc, &mut self.slots, &mut self.lists, more)
+    }
+
+    /// Puts a pair in, unless one with these numbers is there. It takes no memory.
+    pub fn insert(&mut self, numbers: Numbers, pair: Tagged)
+        requires { 0 < self.old.room }
+        ensures members { (other : Numbers × Tagged) → Has self.new.pairs other
+            ↔ (Has self.old.pairs other ⊎ ((other ≡ (numbers, pair)) × ¬ HasNumbers self.old.pairs numbers)) }
+        ensures room { self.old.room ≤ self.new.room + 1 }
+    {
+        insert_in(&mut self.slots, &mut self.lists, numbers, pair);
+    }
+
+    /// Takes out the pair with these numbers, if it is there. It takes no memory.
+    pub fn remove(&mut self, numbers: &Numbers)
+        ensures members { (other : Numbers × Tagged) → Has self.new.pairs other
+            ↔ (Has self.old.pairs other × ¬ (other.0 ≡ numbers.now)) }
+        ensures room { self.old.room ≤ self.new.room }
+    {
+        remove_in(&mut self.slots, &mut self.lists, numbers);
+    }
+
+    /// Whether a pair has these numbers.
+    pub fn has(&self, numbers: &Numbers) -> bool
+        ensures { IsTrue result ↔ HasNumbers self.now.pairs numbers.now }
+    {
+        find_slot(&self.lists.dot, numbers).is_some()
+    }
+
+    /// Whether a pair has these numbers of terms.
+    pub fn has_triple(&self, s: u32, p: u32, o: u32) -> bool
+        ensures { IsTrue result ↔ HasTerms self.now.pairs s p o }
+    {
+        has_terms(&self.lists.subject, s, p, o)
+    }
+
+    /// The pairs of a path whose ticks are from the first to the last, by tick.
+    pub fn of_dots(
+        &self,
+        alloc: Global,
+        path: u32,
+        first: u32,
+        last: u32,
+    ) -> Result<Vec<&Tagged>, AllocError>
+        ensures found { IfOk result (λ found. map (λ x. x.now) found.items
+            ≡ map (λ entry. entry.1) (filter (λ entry. is_of_ticks path first last entry.0) self.now.pairs)) }
+        ensures once { StandOnce (map (λ entry. entry.0) self.now.pairs) }
+    {
+        let low = BeforeFront {
+            shape: Shape::Dot,
+            front: &[path, first],
+        };
+        let high = UpToFront {
+            shape: Shape::Dot,
+            front: &[path, last],
+        };
+        let keys = self.lists.dot.between(alloc, &low, &high)?;
+        lend_found(alloc, &self.slots.pairs, &keys)
+    }
+
+    /// All pairs, by dot.
+    pub fn lend_all(&self, alloc: Global) -> Result<Vec<&Tagged>, AllocError>
+        ensures pairs { IfOk result (λ found. map (λ x. x.now) found.items ≡ map (λ entry. entry.1) self.now.pairs) }
+        ensures once { StandOnce (map (λ entry. entry.0) self.now.pairs) }
+    {
+        let dots = &self.lists.dot;
+        lend_chunks(alloc, &self.slots.pairs, dots.chunks(), dots.len())
+    }
+
+    /// The pairs that have the wanted numbers of terms, each once, in whatever order. They are found by halves.
+    pub fn search<L: Ledger>(
+        &self,
+        alloc: Global,
+        wanted: &Places,
+        steps: &mut CountedSteps<L>,
+    ) -> Result<Vec<&Tagged>, AllocError>
+        ensures found { IfOk result (λ found. FindsEntries (has_places wanted.now) self.now.pairs (map (λ x. x.now) found.items)) }
+        ensures bound { steps.new ≤ steps.old + 2 * binary_digits (length self.now.pairs)
+            + length (entries_with wanted.now self.now.pairs) + 2 }
+        ensures once { StandOnce (map (λ entry. entry.0) self.now.pairs) }
+    {
+        // `len` tells that no two have the same numbers.
+        let _ = self.len();
+        search(alloc, &self.order(wanted.shape()), wanted, steps)
+    }
+
+    /// The pairs in an order.
+    pub fn order(&self, shape: Shape) -> KeyOrder<'_>
+        ensures shape { result.shape ≡ shape }
+        ensures entries { (entry : Numbers × Tagged) → Has (entries_of result.slots result.keys) entry ↔ Has self.now.pairs entry }
+        ensures once { StandOnce (map (λ entry. entry.0) (entries_of result.slots result.keys)) }
+        ensures length { length result.keys ≡ length self.now.pairs }
+    {
+        KeyOrder {
+            shape,
+            keys: keys_in(&self.lists, shape),
+            slots: self.slots.pairs.as_slice(),
+        }
+    }
+}
