@@ -1,0 +1,3 @@
+pub mod ByIris
+pub mod NumberedGraphs
+pub mod TermNumbers
