@@ -7,5 +7,7 @@ mod deeds;
 mod lines;
 
 pub use carried::carried_fronts;
+pub use clone_core;
+pub use clone_core::{clone_parts, journal_sides, journal_store};
 pub use deeds::{deeds_done, deeds_refused};
 pub use lines::crash_lines_stand;

@@ -10,14 +10,14 @@ use Rattle.rdf_terms.specs.Order.{iri_cmp}
 use Rattle.mld_ops.specs.Properties.{AreKept}
 use Rattle.mld_ops.proofs.AscendingLaws.{same_ascending}
 use Rattle.mld_ops.proofs.PropertiesLaws.{iri_total, iri_exact}
-use Rattle.clone_core.specs.journal_sides.Pairs.{KeepsNone, read_banks}
-use Rattle.clone_core.specs.journal_store.Closing.{StaysTold}
-use Rattle.clone_core.proofs.of_journal_store.ClosingLaws.{told_same}
-use Rattle.clone_core.specs.journal_store.Crashes.{LeavesNothingNew}
-use Rattle.clone_core.specs.journal_store.Mounting.{IsSynced}
-use Rattle.clone_core.specs.journal_store.declared.faults.MountFault.{MountFault}
-use Rattle.clone_core.specs.Opening.{TellsClone, SyncsBoth}
-use Rattle.clone_core.specs.declared.mounts.Mounted.TheVariants.{Refused}
+use Rattle.crash_laws.specs.journal_sides.Pairs.{KeepsNone, read_banks}
+use Rattle.crash_laws.specs.journal_store.Closing.{StaysTold}
+use Rattle.crash_laws.proofs.of_journal_store.ClosingLaws.{told_same}
+use Rattle.crash_laws.specs.journal_store.Crashes.{LeavesNothingNew}
+use Rattle.crash_laws.specs.journal_store.Mounting.{IsSynced}
+use Rattle.crash_laws.specs.journal_store.declared.faults.MountFault.{MountFault}
+use Rattle.crash_laws.specs.clone_core.Opening.{TellsClone, SyncsBoth}
+use Rattle.crash_laws.specs.clone_core.declared.mounts.Mounted.TheVariants.{Refused}
 use Rattle.shell_session.specs.declared.commands.ShellCommand.{ShellCommand}
 use Rattle.shell_session.specs.declared.commands.ShellCommand.TheVariants as shell
 use Rattle.shell_session.specs.Shells.{FoundOnBanks, Nothing, Damage, found_of, Shell, Shut}

@@ -2,7 +2,7 @@
 use Rattle.std.proofs.Common.{◌≡◌, List, ◌++◌, Option, sym, ◌∙◌, ap, append_assoc}
 use Rattle.mld_io.specs.Disk.{Log, Call, Sides, grown_by, LeavesMeanwhile}
 use Rattle.mld_io.proofs.DiskLaws.{AtEachMoment-weaken, LeavesMeanwhile-then}
-use Rattle.clone_core.specs.clone_parts.KeptSteps.{KeptStep}
+use Rattle.crash_laws.specs.clone_parts.KeptSteps.{KeptStep}
 use Rattle.shell_session.specs.Shells.{FoundOnBanks, found_after}
 use Rattle.shell_session.specs.SessionLines.{ImagesFind, FindsFront, LeavesFront}
 use Rattle.shell_session.proofs.RunLaws.{found_both}

@@ -1,7 +1,7 @@
-pub use Rattle.clone_core.proofs.of_journal_sides as of_journal_sides
-pub use Rattle.clone_core.proofs.of_journal_store as of_journal_store
-pub use Rattle.clone_core.proofs.of_clone_parts as of_clone_parts
-pub use Rattle.clone_core.proofs as of_clone_core
+pub use Rattle.crash_laws.proofs.of_journal_sides as of_journal_sides
+pub use Rattle.crash_laws.proofs.of_journal_store as of_journal_store
+pub use Rattle.crash_laws.proofs.of_clone_parts as of_clone_parts
+pub use Rattle.crash_laws.proofs.of_clone_core as of_clone_core
 mod ShellWords
 mod ShellIris
 mod ShellCommands

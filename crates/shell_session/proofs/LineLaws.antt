@@ -2,12 +2,12 @@
 use Rattle.std.proofs.Common.{◌≡◌, ◌≢◌, ◌⊎◌, ℕ, List, [], ◌++◌, Option, None, Some, inl, inr, refl, sym, ◌∙◌, ap, subst, append-nil}
 use Rattle.mld_io.specs.Arm.{Meter}
 use Rattle.mld_io.specs.Disk.{Log}
-use Rattle.clone_core.specs.journal_store.Closing.{StaysTold}
+use Rattle.crash_laws.specs.journal_store.Closing.{StaysTold}
 use Rattle.mld_model.specs.Local.{LocalClone}
 use Rattle.mld_model.specs.Reply.{Stopped}
 use Rattle.schedule_model.specs.Schedule.{IsNothing}
-use Rattle.clone_core.specs.clone_parts.KeptSteps.{KeptStep}
-use Rattle.clone_core.specs.Banked.{BankedClone, KeepsClone}
+use Rattle.crash_laws.specs.clone_parts.KeptSteps.{KeptStep}
+use Rattle.crash_laws.specs.clone_core.Banked.{BankedClone, KeepsClone}
 use Rattle.shell_session.specs.declared.commands.ShellCommand.{ShellCommand}
 use Rattle.shell_session.specs.declared.commands.ShellCommand.TheVariants as shell
 use Rattle.shell_session.specs.ReadShell.{IsBadShell, IsShellInForm}

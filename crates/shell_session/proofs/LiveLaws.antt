@@ -12,19 +12,19 @@ use Rattle.op_fusion.proofs.Runs.{fused_runs_are_compacted}
 use Rattle.jrql_ast.specs.declared.plans.UpdatePlan.{UpdatePlan}
 use Rattle.mld_model.specs.Local.{LocalClone, next_dot, LocallyCompacts, LocallyTruncates}
 use Rattle.mld_model.specs.Reply.{NoOperation, Single, TooMany, Kept}
-use Rattle.clone_core.specs.clone_parts.KeptSteps.{KeptStep, Appended, Swapped}
-use Rattle.clone_core.specs.clone_parts.declared.answers.Done.{Done}
-use Rattle.clone_core.specs.clone_parts.declared.answers.Done.TheVariants as done
-use Rattle.clone_core.specs.clone_parts.declared.faults.KeepFault.{KeepFault}
-use Rattle.clone_core.specs.clone_parts.declared.faults.KeepFault.TheVariants as keep
-use Rattle.clone_core.specs.clone_parts.declared.faults.UpdateFault.{UpdateFault}
-use Rattle.clone_core.specs.clone_parts.declared.faults.UpdateFault.TheVariants as update
-use Rattle.clone_core.specs.Banked.{BankedClone, head_of}
-use Rattle.clone_core.specs.CloneClosing.{LeavesClone, StaysOpen, update_stop, keep_stop}
-use Rattle.clone_core.specs.CloneUpdates.{LocallyUpdatesBy, RefusesUpdate, IsDueUpdate}
-use Rattle.clone_core.specs.Due.{IsDueSwap, IsSpent}
-use Rattle.clone_core.specs.DurableCalls.{LeavesFronts, Changes, UpdateSteps, AppendsPlanned, KeepSteps, SwapsTo}
-use Rattle.clone_core.specs.Keeping.{KeepsCompacted, nothing_to_fuse, swapped, KeepsTruncated, nothing_to_cut, cut}
+use Rattle.crash_laws.specs.clone_parts.KeptSteps.{KeptStep, Appended, Swapped}
+use Rattle.crash_laws.specs.clone_parts.declared.answers.Done.{Done}
+use Rattle.crash_laws.specs.clone_parts.declared.answers.Done.TheVariants as done
+use Rattle.crash_laws.specs.clone_parts.declared.faults.KeepFault.{KeepFault}
+use Rattle.crash_laws.specs.clone_parts.declared.faults.KeepFault.TheVariants as keep
+use Rattle.crash_laws.specs.clone_parts.declared.faults.UpdateFault.{UpdateFault}
+use Rattle.crash_laws.specs.clone_parts.declared.faults.UpdateFault.TheVariants as update
+use Rattle.crash_laws.specs.clone_core.Banked.{BankedClone, head_of}
+use Rattle.crash_laws.specs.clone_core.CloneClosing.{LeavesClone, StaysOpen, update_stop, keep_stop}
+use Rattle.crash_laws.specs.clone_core.CloneUpdates.{LocallyUpdatesBy, RefusesUpdate, IsDueUpdate}
+use Rattle.crash_laws.specs.clone_core.Due.{IsDueSwap, IsSpent}
+use Rattle.crash_laws.specs.clone_core.DurableCalls.{LeavesFronts, Changes, UpdateSteps, AppendsPlanned, KeepSteps, SwapsTo}
+use Rattle.crash_laws.specs.clone_core.Keeping.{KeepsCompacted, nothing_to_fuse, swapped, KeepsTruncated, nothing_to_cut, cut}
 use Rattle.crash_laws.proofs.KeepingDeeds.{neighbours_fused}
 use Rattle.shell_session.specs.ShellReply.{ShellReply, Says, DidAt, TicksSpent, GenerationsSpent, shell_text}
 use Rattle.shell_session.specs.ShellStep.{HasSpentTicks, AnswersUpdate, no_tick_is_left, is_too_large, changes_nothing, breaks_single, makes_operation, KeepsJournal, is_kept_so, no_generation_is_left, swaps_journal, AppendsUpdate, SwapsJournal}

@@ -3,13 +3,13 @@ use Rattle.std.proofs.Common.{◌≡◌, ℕ, List, [], ◌∷◌, Option, Some,
 use Rattle.mld_io.specs.Arm.{Arm, Meter}
 use Rattle.mld_io.specs.Disk.{Log, Sides, seen, grown_by, MayLeave, LeavesOnly, LeavesMeanwhile}
 use Rattle.mld_io.proofs.DiskLaws.{AtEachMoment-last, AtEachMoment-weaken, LeavesMeanwhile-then}
-use Rattle.clone_core.specs.journal_sides.Pairs.{PairReading, KeepsNone, Keeps, Damages, read_banks}
-use Rattle.clone_core.specs.journal_store.Crashes.{LeavesNothingNew}
-use Rattle.clone_core.proofs.of_journal_store.DeviceLaws.{weaken_moments, no_moments}
+use Rattle.crash_laws.specs.journal_sides.Pairs.{PairReading, KeepsNone, Keeps, Damages, read_banks}
+use Rattle.crash_laws.specs.journal_store.Crashes.{LeavesNothingNew}
+use Rattle.crash_laws.proofs.of_journal_store.DeviceLaws.{weaken_moments, no_moments}
 use Rattle.mld_model.specs.Local.{LocalClone}
-use Rattle.clone_core.specs.clone_parts.KeptSteps.{KeptStep, Created, Appended, Forked, Swapped, after_step, after_steps, ReadsSome, LeavesSome}
-use Rattle.clone_core.specs.Banked.{BankedClone, head_of, kept_as, KeepsClone}
-use Rattle.clone_core.specs.DurableCalls.{LeavesFronts}
+use Rattle.crash_laws.specs.clone_parts.KeptSteps.{KeptStep, Created, Appended, Forked, Swapped, after_step, after_steps, ReadsSome, LeavesSome}
+use Rattle.crash_laws.specs.clone_core.Banked.{BankedClone, head_of, kept_as, KeepsClone}
+use Rattle.crash_laws.specs.clone_core.DurableCalls.{LeavesFronts}
 use Rattle.shell_session.specs.Shells.{FoundOnBanks, Stored, found_in, found_after_step, found_after}
 use Rattle.shell_session.specs.SessionLines.{ImagesFind, FindsFront, LeavesFront}
 use Rattle.shell_session.specs.Sessions.{HasKept}

@@ -4,8 +4,8 @@ use Rattle.mld_ops.specs.Entry.{EntryValue}
 use Rattle.jrql_ast.specs.declared.plans.UpdatePlan.{UpdatePlan}
 use Rattle.mld_model.specs.Local.{LocalClone, IsSameClone}
 use Rattle.mld_model.specs.Reply.{Reply}
-use Rattle.clone_core.specs.clone_parts.KeptSteps.{KeptStep, Appended, Swapped}
-use Rattle.clone_core.specs.Banked.{head_of}
+use Rattle.crash_laws.specs.clone_parts.KeptSteps.{KeptStep, Appended, Swapped}
+use Rattle.crash_laws.specs.clone_core.Banked.{head_of}
 use Rattle.jrql_ast.specs.Templates.{insertion_of, deletion_of}
 use Rattle.shell_session.specs.declared.commands.ShellCommand.{ShellCommand}
 use Rattle.shell_session.specs.declared.commands.ShellCommand.TheVariants as shell

@@ -3,15 +3,15 @@ use Rattle.std.proofs.Common.{◌≡◌, ℕ, List, [], ◌∷◌, ◌++◌, Opt
 use Rattle.mld_io.specs.Arm.{Meter}
 use Rattle.mld_io.specs.Disk.{Log, Sides, seen}
 use Rattle.mld_io.specs.declared.banks.Side.{Side}
-use Rattle.clone_core.specs.journal_sides.Pairs.{PairReading, KeepsNone, Keeps, Damages, read_banks}
-use Rattle.clone_core.specs.journal_store.Crashes.{LeavesNothingNew}
-use Rattle.clone_core.specs.journal_store.Mounting.{IsSynced}
+use Rattle.crash_laws.specs.journal_sides.Pairs.{PairReading, KeepsNone, Keeps, Damages, read_banks}
+use Rattle.crash_laws.specs.journal_store.Crashes.{LeavesNothingNew}
+use Rattle.crash_laws.specs.journal_store.Mounting.{IsSynced}
 use Rattle.mld_model.specs.Local.{LocalClone}
 use Rattle.mld_model.specs.Reply.{Opened}
-use Rattle.clone_core.specs.clone_parts.KeptSteps.{KeptStep, Created}
-use Rattle.clone_core.specs.Banked.{BankedClone, KeepsClone, head_of, kept_as}
-use Rattle.clone_core.specs.DurableCalls.{Creates}
-use Rattle.clone_core.specs.Opening.{IsFoundAs, RunsAgain}
+use Rattle.crash_laws.specs.clone_parts.KeptSteps.{KeptStep, Created}
+use Rattle.crash_laws.specs.clone_core.Banked.{BankedClone, KeepsClone, head_of, kept_as}
+use Rattle.crash_laws.specs.clone_core.DurableCalls.{Creates}
+use Rattle.crash_laws.specs.clone_core.Opening.{IsFoundAs, RunsAgain}
 use Rattle.shell_session.specs.declared.commands.ShellCommand.{ShellCommand}
 use Rattle.shell_session.specs.declared.commands.ShellCommand.TheVariants as shell
 use Rattle.shell_session.specs.Shells.{FoundOnBanks, Nothing, Damage, found_in, Shell, Shut, Live}

@@ -1,7 +1,7 @@
-pub use Rattle.clone_core.specs.journal_sides as journal_sides
-pub use Rattle.clone_core.specs.journal_store as journal_store
-pub use Rattle.clone_core.specs.clone_parts as clone_parts
-pub use Rattle.clone_core.specs as clone_core
+pub use Rattle.crash_laws.specs.journal_sides as journal_sides
+pub use Rattle.crash_laws.specs.journal_store as journal_store
+pub use Rattle.crash_laws.specs.clone_parts as clone_parts
+pub use Rattle.crash_laws.specs.clone_core as clone_core
 pub mod ShellLines
 pub mod ReadShell
 pub mod ShellLaws

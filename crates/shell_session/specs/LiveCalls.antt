@@ -7,9 +7,9 @@ use Rattle.schedule_model.specs.jrql_patterns.declared.queries.ReadQuery.{ReadQu
 use Rattle.mld_model.specs.Local.{LocalClone}
 use Rattle.mld_model.specs.Reply.{Reply}
 use Rattle.schedule_model.specs.Querying.{AnswersQuery}
-use Rattle.clone_core.specs.clone_parts.KeptSteps.{KeptStep}
-use Rattle.clone_core.specs.Banked.{BankedClone}
-use Rattle.clone_core.specs.DurableCalls.{LeavesFronts}
+use Rattle.crash_laws.specs.clone_parts.KeptSteps.{KeptStep}
+use Rattle.crash_laws.specs.clone_core.Banked.{BankedClone}
+use Rattle.crash_laws.specs.clone_core.DurableCalls.{LeavesFronts}
 use Rattle.shell_session.specs.Shells.{generation_after}
 use Rattle.shell_session.specs.ShellReply.{ShellReply, Says, shell_text}
 

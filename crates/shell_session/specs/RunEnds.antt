@@ -2,8 +2,8 @@
 -- and their words for an end `LeavesDone`.
 use Rattle.std.specs.Prelude.{◌≡◌, ◌≢◌, ◌++◌, List, Option, Some}
 use Rattle.mld_io.specs.Disk.{Log, seen, LeavesOnly}
-use Rattle.clone_core.specs.journal_sides.Pairs.{read_banks}
-use Rattle.clone_core.specs.clone_parts.KeptSteps.{KeptStep}
+use Rattle.crash_laws.specs.journal_sides.Pairs.{read_banks}
+use Rattle.crash_laws.specs.clone_parts.KeptSteps.{KeptStep}
 use Rattle.shell_session.specs.Shells.{FoundOnBanks, found_in, found_after}
 use Rattle.shell_session.specs.SessionLines.{ImagesFind, FindsFront, LeavesFront}
 

@@ -4,8 +4,8 @@ use Rattle.mld_io.specs.Arm.{Meter, Unarmed}
 use Rattle.mld_io.specs.Disk.{Log, Sides, LeavesOnly, LeavesMeanwhile}
 use Rattle.mld_io.specs.Faults.{counted}
 use Rattle.text_rules.specs.Domain.{is_domain}
-use Rattle.clone_core.specs.journal_sides.Pairs.{read_banks}
-use Rattle.clone_core.specs.clone_parts.KeptSteps.{KeptStep}
+use Rattle.crash_laws.specs.journal_sides.Pairs.{read_banks}
+use Rattle.crash_laws.specs.clone_parts.KeptSteps.{KeptStep}
 use Rattle.shell_session.specs.declared.commands.ShellCommand.{ShellCommand}
 use Rattle.shell_session.specs.declared.commands.ShellCommand.TheVariants as shell
 use Rattle.shell_session.specs.ReadShell.{IsShellInForm}

@@ -1,9 +1,9 @@
 -- Which shell of the model a session stands for. `Session::line` and `Session::into_banks` cite it.
 use Rattle.std.specs.Prelude.{◌≡◌, ℕ, List, Option, None, Some}
 use Rattle.mld_io.specs.Disk.{Log, seen}
-use Rattle.clone_core.specs.journal_sides.Pairs.{read_banks}
+use Rattle.crash_laws.specs.journal_sides.Pairs.{read_banks}
 use Rattle.mld_model.specs.Local.{LocalClone}
-use Rattle.clone_core.specs.Banked.{BankedClone, KeepsClone}
+use Rattle.crash_laws.specs.clone_core.Banked.{BankedClone, KeepsClone}
 use Rattle.shell_session.specs.Shells.{FoundOnBanks, found_in, Shell, Shut, Live}
 use Rattle.shell_session.specs.declared.sessions.Session.{Session}
 use Rattle.shell_session.specs.declared.sessions.Session.TheVariants as sessions

@@ -1,6 +1,6 @@
 -- The laws of the shell's lines, as the contracts of the crate state them.
 use Rattle.std.specs.Prelude.{◌≡◌, ℕ, List}
-use Rattle.clone_core.specs.clone_parts.KeptSteps.{KeptStep}
+use Rattle.crash_laws.specs.clone_parts.KeptSteps.{KeptStep}
 use Rattle.shell_session.specs.Shells.{Shell, found_of, found_after}
 use Rattle.shell_session.specs.ShellRuns.{ShellRuns}
 

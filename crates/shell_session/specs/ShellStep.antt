@@ -10,15 +10,15 @@ use Rattle.op_fusion.specs.Compacting.{HasNeighbours}
 use Rattle.jrql_ast.specs.declared.plans.UpdatePlan.{UpdatePlan}
 use Rattle.jrql_ast.specs.Templates.{insertion_of, deletion_of}
 use Rattle.jrql_eval.specs.PlanEffects.{HasTooMany}
-use Rattle.clone_core.specs.journal_sides.Heads.{HeadValue}
+use Rattle.crash_laws.specs.journal_sides.Heads.{HeadValue}
 use Rattle.mld_model.specs.Local.{LocalClone, IsLocal, blank_clone, next_dot, LocallyCompacts, LocallyTruncates}
 use Rattle.mld_model.specs.Reply.{Reply, NoOperation, Single, TooMany, Shows, Kept, IsLive, Stopped, Opened}
 use Rattle.schedule_model.specs.Querying.{AnswersQuery}
-use Rattle.clone_core.specs.clone_parts.KeptSteps.{KeptStep, Created, Appended, Swapped}
-use Rattle.clone_core.specs.clone_parts.declared.answers.Done.TheVariants as done
-use Rattle.clone_core.specs.Banked.{head_of}
-use Rattle.clone_core.specs.CloneUpdates.{LocallyUpdatesBy, BreaksSingle, HasEffect, IsMakeable}
-use Rattle.clone_core.specs.DurableCalls.{SwapsTo}
+use Rattle.crash_laws.specs.clone_parts.KeptSteps.{KeptStep, Created, Appended, Swapped}
+use Rattle.crash_laws.specs.clone_parts.declared.answers.Done.TheVariants as done
+use Rattle.crash_laws.specs.clone_core.Banked.{head_of}
+use Rattle.crash_laws.specs.clone_core.CloneUpdates.{LocallyUpdatesBy, BreaksSingle, HasEffect, IsMakeable}
+use Rattle.crash_laws.specs.clone_core.DurableCalls.{SwapsTo}
 use Rattle.shell_session.specs.declared.commands.ShellCommand.{ShellCommand}
 use Rattle.shell_session.specs.declared.commands.ShellCommand.TheVariants as shell
 use Rattle.shell_session.specs.Shells.{FoundOnBanks, Nothing, Stored, Damage, Shell, Shut, Live, generation_after}

@@ -3,11 +3,11 @@ use Rattle.std.specs.Prelude.{ℕ, ◌+◌, List, [], ◌∷◌, ◌++◌, Optio
 use Rattle.mld_io.specs.declared.banks.Side.{Side}
 use Rattle.tree_clock.specs.Path.{zero_letter}
 use Rattle.mld_ops.specs.Entry.{EntryValue}
-use Rattle.clone_core.specs.journal_sides.Heads.{HeadValue}
-use Rattle.clone_core.specs.journal_sides.Pairs.{PairReading, KeepsNone, Keeps, Damages}
+use Rattle.crash_laws.specs.journal_sides.Heads.{HeadValue}
+use Rattle.crash_laws.specs.journal_sides.Pairs.{PairReading, KeepsNone, Keeps, Damages}
 use Rattle.mld_model.specs.Local.{LocalClone}
-use Rattle.clone_core.specs.clone_parts.KeptSteps.{KeptStep, Created, Appended, Forked, Swapped}
-use Rattle.clone_core.specs.Banked.{head_of}
+use Rattle.crash_laws.specs.clone_parts.KeptSteps.{KeptStep, Created, Appended, Forked, Swapped}
+use Rattle.crash_laws.specs.clone_core.Banked.{head_of}
 
 -- what is found on banks, whichever of their sides counts
 pub data FoundOnBanks : Type 0 where

@@ -1,8 +1,8 @@
 -- What becomes of banks that are not mounted. The private calls behind `Session::line` cite it.
 use Rattle.std.specs.Prelude.{◌≡◌, ℕ, List, ◌++◌}
 use Rattle.mld_io.specs.declared.banks.Side.{Side}
-use Rattle.clone_core.specs.journal_store.declared.faults.MountFault.{MountFault}
-use Rattle.clone_core.specs.journal_store.declared.faults.MountFault.TheVariants.{Damaged, Device}
+use Rattle.crash_laws.specs.journal_store.declared.faults.MountFault.{MountFault}
+use Rattle.crash_laws.specs.journal_store.declared.faults.MountFault.TheVariants.{Damaged, Device}
 use Rattle.shell_session.specs.ShellReply.{FoundDamage, shell_text}
 use Rattle.shell_session.specs.declared.faults.SessionFault.{SessionFault}
 use Rattle.shell_session.specs.declared.faults.SessionFault.TheVariants as faults

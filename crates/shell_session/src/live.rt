@@ -1,7 +1,7 @@
 //! Commands on a live clone that stays live.
 ghost use Rattle.std.specs.Prelude.{◌≡◌, ◌++◌, None, IfOk, IfErr, OnOk, OnErr, IsErrOf};
 ghost use Rattle.jrql_ast.specs.InForm.{IsPlanInForm, IsQueryInForm};
-ghost use Rattle.clone_core.specs.journal_store.Closing.{StaysTold};
+ghost use Rattle.crash_laws.specs.journal_store.Closing.{StaysTold};
 ghost use Rattle.mld_ops.specs.Ready.{last_dot};
 ghost use Rattle.jrql_ast.specs.Templates.{insertion_of, deletion_of};
 ghost use Rattle.shell_session.specs.ShellReply.{shell_text};
@@ -13,7 +13,7 @@ ghost use Rattle.shell_session.specs.SessionReplies.{shell_value};
 use crate::commands::ShellCommand;
 use crate::faults::SessionFault;
 use crate::replies::{ShellReply, push_shell_reply};
-use clone_core::{Done, KeepFault, MldClone, UpdateFault};
+use crash_laws::clone_core::{Done, KeepFault, MldClone, UpdateFault};
 use jrql_ast::UpdatePlan;
 use mld_io::Banks;
 use mld_ops::Entry;

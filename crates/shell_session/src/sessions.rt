@@ -1,7 +1,7 @@
 //! A session of the shell: the banks of one clone, and the clone where it is live.
 ghost use Rattle.std.specs.Prelude.{◌≡◌, ◌↔◌, ◌++◌, None, Some, Option, MatchOption, option_map, IsTrue, IfOk, IfErr, OnErr};
 ghost use Rattle.text_rules.specs.Domain.{is_domain};
-ghost use Rattle.clone_core.specs.journal_store.Closing.{StaysTold};
+ghost use Rattle.crash_laws.specs.journal_store.Closing.{StaysTold};
 ghost use Rattle.shell_session.specs.declared.commands.ShellCommand.TheVariants as commands;
 ghost use Rattle.shell_session.specs.Shells.{Shell};
 ghost use Rattle.shell_session.specs.ShellReply.{shell_text};
@@ -16,7 +16,7 @@ use crate::lines::read_shell;
 use crate::live::do_live;
 use crate::replies::{ShellReply, push_shell_reply};
 use crate::shut::do_shut;
-use clone_core::MldClone;
+use crash_laws::clone_core::MldClone;
 use mld_io::Banks;
 use schedule_replies::Reply;
 use schedule_text::LineRefusal;

@@ -1,7 +1,7 @@
 //! Commands while no clone is live: banks are opened, or a clone is made on them.
 ghost use Rattle.std.specs.Prelude.{◌≡◌, IsTrue, IfOk, IfErr, OnErr};
 ghost use Rattle.text_rules.specs.Domain.{is_domain};
-ghost use Rattle.clone_core.specs.journal_store.Closing.{StaysTold};
+ghost use Rattle.crash_laws.specs.journal_store.Closing.{StaysTold};
 ghost use Rattle.shell_session.specs.declared.commands.ShellCommand.TheVariants as commands;
 ghost use Rattle.shell_session.specs.Shells.{Nothing, Shell, Shut};
 ghost use Rattle.shell_session.specs.Sessions.{MayDoLine, SessionStands};
@@ -13,8 +13,8 @@ use crate::commands::ShellCommand;
 use crate::faults::SessionFault;
 use crate::replies::ShellReply;
 use crate::sessions::{Session, answer};
-use clone_core::journal_store::{Blank, MakeFault, MountFault};
-use clone_core::{MldClone, Mounted};
+use crash_laws::journal_store::{Blank, MakeFault, MountFault};
+use crash_laws::clone_core::{MldClone, Mounted};
 use mld_io::Banks;
 use rdf_terms::Iri;
 use schedule_replies::Reply;

@@ -11,7 +11,7 @@ use Rattle.mld_model.specs.StandsFor.{RunningClone, RunningWorld}
 use Rattle.schedule_model.specs.declared.Command.TheVariants.{Ask}
 use Rattle.schedule_model.specs.WorldStep.{IsMissingReply}
 use Rattle.schedule_model.proofs.AskLaws.{ask_follows, ask_missing}
-use Rattle.clone_core.specs.Banked.{BankedClone}
+use Rattle.crash_laws.specs.clone_core.Banked.{BankedClone}
 use Rattle.world_commands.specs.declared.faults.WorldFault.{WorldFault}
 use Rattle.world_commands.specs.declared.parts.Parts.{Parts}
 use Rattle.schedule_replies.specs.declared.replies.Reply.{Reply as CodeReply}

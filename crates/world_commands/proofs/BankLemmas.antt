@@ -6,8 +6,8 @@ use Rattle.std.proofs.lemmas.List.{map-set, length-set}
 use Rattle.std.proofs.lemmas.Option.{slice_get-map}
 use Rattle.mld_io.specs.Arm.{Arm, Meter, Metered, LowersAtMost}
 use Rattle.mld_io.specs.Disk.{Log}
-use Rattle.clone_core.specs.journal_store.declared.faults.MakeFault.{MakeFault}
-use Rattle.clone_core.specs.journal_store.declared.faults.MakeFault.TheVariants as make
+use Rattle.crash_laws.specs.journal_store.declared.faults.MakeFault.{MakeFault}
+use Rattle.crash_laws.specs.journal_store.declared.faults.MakeFault.TheVariants as make
 use Rattle.mld_model.specs.declared.CloneState.TheVariants as states
 use Rattle.mld_model.specs.Clone.{Clone, Stored, kept_of}
 use Rattle.mld_model.specs.Clone as model
@@ -17,8 +17,8 @@ use Rattle.mld_model.specs.Reply.{Reply, NoMessage}
 use Rattle.mld_model.specs.Sound.{Keeps, IsSound}
 use Rattle.mld_model.specs.StandsFor.{StoredStandsFor, CloneStandsFor}
 use Rattle.mld_model.specs.World.{World, Message, clone_at, message_at}
-use Rattle.clone_core.specs.Banked.{BankedClone}
-use Rattle.clone_core.specs.CloneClosing.{StaysOpen}
+use Rattle.crash_laws.specs.clone_core.Banked.{BankedClone}
+use Rattle.crash_laws.specs.clone_core.CloneClosing.{StaysOpen}
 use Rattle.schedule_model.specs.declared.Command.{Command}
 use Rattle.schedule_model.specs.declared.Command.TheVariants.{Add, Remove, Update, Deliver, Show, Query, Compare, Join, Ask, Compact, Truncate, Stop, Open, Crash}
 use Rattle.schedule_model.specs.Step.{Step, number_of_clone}

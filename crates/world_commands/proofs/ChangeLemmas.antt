@@ -21,8 +21,8 @@ use Rattle.schedule_model.specs.declared.Command.TheVariants.{Add, Remove, Updat
 use Rattle.schedule_model.specs.Step.{Step}
 use Rattle.schedule_model.specs.WorldStep.{Follows, IsMissingReply, stepped}
 use Rattle.schedule_model.proofs.WorldLaws.{update_too_large, update_nothing, update_single, update_made, update_missing}
-use Rattle.clone_core.specs.Banked.{BankedClone}
-use Rattle.clone_core.specs.CloneClosing.{StaysOpen}
+use Rattle.crash_laws.specs.clone_core.Banked.{BankedClone}
+use Rattle.crash_laws.specs.clone_core.CloneClosing.{StaysOpen}
 use Rattle.world_commands.specs.declared.faults.WorldFault.{WorldFault}
 use Rattle.world_commands.specs.declared.parts.Parts.{Parts}
 use Rattle.schedule_replies.specs.declared.replies.Reply.{Reply as CodeReply}

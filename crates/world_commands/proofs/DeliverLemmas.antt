@@ -22,13 +22,13 @@ use Rattle.schedule_model.proofs.WorldLaws.{stepped, stepped_with, sent_message,
 use Rattle.schedule_model.proofs.JoinLaws.{deliver_ask_own, deliver_deep, deliver_ask, deliver_give_live, deliver_joined, deliver_asking}
 use Rattle.mld_io.specs.Arm.{Meter, Metered}
 use Rattle.mld_io.specs.Disk.{Log}
-use Rattle.clone_core.specs.Banked.{BankedAsker, BankedClone}
-use Rattle.clone_core.specs.Wants.{SendsLacked, sends_entries, sends_snapshot}
+use Rattle.crash_laws.specs.clone_core.Banked.{BankedAsker, BankedClone}
+use Rattle.crash_laws.specs.clone_core.Wants.{SendsLacked, sends_entries, sends_snapshot}
 use Rattle.tree_clock.specs.Clock.{ClockValue}
 use Rattle.std.proofs.lemmas.List.{length-map}
-use Rattle.clone_core.specs.Joining.{LocallyAdopts, banks_of_adopted, adopting_calls, AdoptsWhole, FailsToAdopt}
-use Rattle.clone_core.specs.declared.askers.Adopted.{Adopted}
-use Rattle.clone_core.specs.declared.askers.Adopted.TheVariants as adopted
+use Rattle.crash_laws.specs.clone_core.Joining.{LocallyAdopts, banks_of_adopted, adopting_calls, AdoptsWhole, FailsToAdopt}
+use Rattle.crash_laws.specs.clone_core.declared.askers.Adopted.{Adopted}
+use Rattle.crash_laws.specs.clone_core.declared.askers.Adopted.TheVariants as adopted
 use Rattle.world_commands.specs.declared.faults.WorldFault.{WorldFault}
 use Rattle.world_commands.specs.declared.deliver.Received.{Received}
 use Rattle.world_commands.specs.declared.deliver.Received.TheVariants as received

@@ -14,7 +14,7 @@ use Rattle.mld_model.proofs.StandsForLaws.{asking_at}
 use Rattle.schedule_model.specs.declared.Command.TheVariants.{Join}
 use Rattle.schedule_model.proofs.WorldLaws.{stepped}
 use Rattle.schedule_model.proofs.JoinLaws.{join_absent, join_again, join_live, join_down}
-use Rattle.clone_core.specs.Banked.{BankedAsker}
+use Rattle.crash_laws.specs.clone_core.Banked.{BankedAsker}
 use Rattle.world_commands.specs.declared.faults.WorldFault.{WorldFault}
 use Rattle.world_commands.specs.declared.faults.WorldFault.TheVariants as faults
 use Rattle.world_commands.specs.declared.parts.Parts.{Parts}

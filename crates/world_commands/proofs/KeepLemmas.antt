@@ -18,8 +18,8 @@ use Rattle.schedule_model.proofs.SnapshotLaws.{truncate_follows, truncate_missin
 use Rattle.schedule_replies.specs.declared.replies.Reply.{Reply as CodeReply}
 use Rattle.schedule_replies.specs.declared.replies.Reply.TheVariants as replies
 use Rattle.schedule_replies.specs.Replies.{reply_value}
-use Rattle.clone_core.specs.Banked.{BankedClone}
-use Rattle.clone_core.specs.Keeping.{KeepsCompacted, KeepsTruncated, nothing_to_fuse, swapped, nothing_to_cut, cut}
+use Rattle.crash_laws.specs.clone_core.Banked.{BankedClone}
+use Rattle.crash_laws.specs.clone_core.Keeping.{KeepsCompacted, KeepsTruncated, nothing_to_fuse, swapped, nothing_to_cut, cut}
 use Rattle.world_commands.specs.declared.faults.WorldFault.{WorldFault}
 use Rattle.world_commands.specs.declared.keeping.Keeping.{Keeping}
 use Rattle.world_commands.specs.declared.keeping.Keeping.TheVariants as keepings

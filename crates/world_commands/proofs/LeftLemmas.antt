@@ -3,10 +3,10 @@ use Rattle.std.proofs.Common.{◌≡◌, ◌≢◌, ◌⊎◌, ℕ, zero, suc, �
 use Rattle.std.specs.Prelude.{slice_get}
 use Rattle.mld_io.specs.Arm.{Meter, Metered}
 use Rattle.mld_io.specs.Disk.{Log}
-use Rattle.clone_core.specs.journal_store.Crashes.{LeavesNothingNew}
-use Rattle.clone_core.specs.journal_store.declared.faults.MountFault.TheVariants as mount
-use Rattle.clone_core.specs.journal_store.declared.faults.Why.{Why}
-use Rattle.clone_core.specs.journal_store.declared.faults.Why.TheVariants as why
+use Rattle.crash_laws.specs.journal_store.Crashes.{LeavesNothingNew}
+use Rattle.crash_laws.specs.journal_store.declared.faults.MountFault.TheVariants as mount
+use Rattle.crash_laws.specs.journal_store.declared.faults.Why.{Why}
+use Rattle.crash_laws.specs.journal_store.declared.faults.Why.TheVariants as why
 use Rattle.jrql_ast.specs.declared.plans.UpdatePlan.{UpdatePlan}
 use Rattle.mld_ops.specs.declared.messages.Give.{Give}
 use Rattle.mld_ops.specs.declared.messages.Message.{Message}
@@ -16,30 +16,30 @@ use Rattle.mld_model.specs.Local.{LocalAsker, LocalClone, joined_clone}
 use Rattle.mld_model.specs.StandsFor.{RunningClone}
 use Rattle.mld_model.specs.World.{numbered}
 use Rattle.mld_model.specs.declared.CloneState.TheVariants as states
-use Rattle.clone_core.specs.clone_parts.KeptSteps.{KeptStep}
-use Rattle.clone_core.specs.Banked.{BankedAsker, BankedClone, head_of}
-use Rattle.clone_core.specs.CloneCalls.{LocallyReceives, Refuses}
-use Rattle.clone_core.specs.CloneClosing.{LeavesClone, update_stop, receive_stop, keep_stop}
-use Rattle.clone_core.specs.CloneUpdates.{LocallyUpdatesBy, RefusesUpdate, IsDueUpdate}
-use Rattle.clone_core.specs.Due.{IsDueMessage, IsDueSwap, IsSwapDue}
-use Rattle.clone_core.specs.DurableCalls.{LeavesFronts, Changes, Creates, RefusedSteps, AppendsPlanned, UpdateSteps, ReceivedSteps, WouldReceive, MessageSteps, SwapsTo, KeepSteps}
-use Rattle.clone_core.specs.Joining.{IsGiveFor, LocallyAdopts, banks_of_adopted, AdoptsWhole, FailsToAdopt}
-use Rattle.clone_core.specs.Keeping.{nothing_to_fuse, swapped, nothing_to_cut, cut}
-use Rattle.clone_core.specs.Opening.{banks_of_mounted, mount_calls, SyncsBoth, FailsToOpen}
-use Rattle.clone_core.specs.declared.askers.Adopted.{Adopted}
-use Rattle.clone_core.specs.declared.askers.Adopted.TheVariants as adopted
-use Rattle.clone_core.specs.declared.mounts.Mounted.{Mounted}
-use Rattle.clone_core.specs.declared.mounts.Mounted.TheVariants as mounted
-use Rattle.clone_core.specs.clone_parts.declared.answers.Done.{Done}
-use Rattle.clone_core.specs.clone_parts.declared.answers.Done.TheVariants as done
-use Rattle.clone_core.specs.clone_parts.declared.answers.Got.{Got}
-use Rattle.clone_core.specs.clone_parts.declared.answers.Got.TheVariants as got
-use Rattle.clone_core.specs.clone_parts.declared.faults.KeepFault.{KeepFault}
-use Rattle.clone_core.specs.clone_parts.declared.faults.KeepFault.TheVariants as keep
-use Rattle.clone_core.specs.clone_parts.declared.faults.ReceiveFault.{ReceiveFault}
-use Rattle.clone_core.specs.clone_parts.declared.faults.ReceiveFault.TheVariants as receive
-use Rattle.clone_core.specs.clone_parts.declared.faults.UpdateFault.{UpdateFault}
-use Rattle.clone_core.specs.clone_parts.declared.faults.UpdateFault.TheVariants as update
+use Rattle.crash_laws.specs.clone_parts.KeptSteps.{KeptStep}
+use Rattle.crash_laws.specs.clone_core.Banked.{BankedAsker, BankedClone, head_of}
+use Rattle.crash_laws.specs.clone_core.CloneCalls.{LocallyReceives, Refuses}
+use Rattle.crash_laws.specs.clone_core.CloneClosing.{LeavesClone, update_stop, receive_stop, keep_stop}
+use Rattle.crash_laws.specs.clone_core.CloneUpdates.{LocallyUpdatesBy, RefusesUpdate, IsDueUpdate}
+use Rattle.crash_laws.specs.clone_core.Due.{IsDueMessage, IsDueSwap, IsSwapDue}
+use Rattle.crash_laws.specs.clone_core.DurableCalls.{LeavesFronts, Changes, Creates, RefusedSteps, AppendsPlanned, UpdateSteps, ReceivedSteps, WouldReceive, MessageSteps, SwapsTo, KeepSteps}
+use Rattle.crash_laws.specs.clone_core.Joining.{IsGiveFor, LocallyAdopts, banks_of_adopted, AdoptsWhole, FailsToAdopt}
+use Rattle.crash_laws.specs.clone_core.Keeping.{nothing_to_fuse, swapped, nothing_to_cut, cut}
+use Rattle.crash_laws.specs.clone_core.Opening.{banks_of_mounted, mount_calls, SyncsBoth, FailsToOpen}
+use Rattle.crash_laws.specs.clone_core.declared.askers.Adopted.{Adopted}
+use Rattle.crash_laws.specs.clone_core.declared.askers.Adopted.TheVariants as adopted
+use Rattle.crash_laws.specs.clone_core.declared.mounts.Mounted.{Mounted}
+use Rattle.crash_laws.specs.clone_core.declared.mounts.Mounted.TheVariants as mounted
+use Rattle.crash_laws.specs.clone_parts.declared.answers.Done.{Done}
+use Rattle.crash_laws.specs.clone_parts.declared.answers.Done.TheVariants as done
+use Rattle.crash_laws.specs.clone_parts.declared.answers.Got.{Got}
+use Rattle.crash_laws.specs.clone_parts.declared.answers.Got.TheVariants as got
+use Rattle.crash_laws.specs.clone_parts.declared.faults.KeepFault.{KeepFault}
+use Rattle.crash_laws.specs.clone_parts.declared.faults.KeepFault.TheVariants as keep
+use Rattle.crash_laws.specs.clone_parts.declared.faults.ReceiveFault.{ReceiveFault}
+use Rattle.crash_laws.specs.clone_parts.declared.faults.ReceiveFault.TheVariants as receive
+use Rattle.crash_laws.specs.clone_parts.declared.faults.UpdateFault.{UpdateFault}
+use Rattle.crash_laws.specs.clone_parts.declared.faults.UpdateFault.TheVariants as update
 use Rattle.crash_laws.specs.Deeds.{HasLeafToGive}
 use Rattle.crash_laws.proofs.ToldDeeds.{may_give}
 use Rattle.schedule_replies.specs.declared.replies.Reply.{Reply}

@@ -14,7 +14,7 @@ use Rattle.schedule_model.specs.Querying.{AnswersQuery}
 use Rattle.schedule_model.specs.declared.Command.{Command}
 use Rattle.schedule_model.specs.declared.Command.TheVariants.{Show, Query, Compare}
 use Rattle.schedule_model.proofs.WorldLaws.{LocallyCompares, stepped, show_follows, show_missing, query_follows, query_missing, compare_follows, compare_missing_first, compare_missing_second}
-use Rattle.clone_core.specs.Banked.{BankedClone}
+use Rattle.crash_laws.specs.clone_core.Banked.{BankedClone}
 use Rattle.world_commands.specs.declared.faults.WorldFault.{WorldFault}
 use Rattle.world_commands.specs.declared.parts.Parts.{Parts}
 use Rattle.schedule_replies.specs.declared.replies.Reply.{Reply as CodeReply}

@@ -10,9 +10,9 @@ use Rattle.mld_ops.specs.History.{Operation}
 use Rattle.mld_ops.specs.Messages.{message_value}
 use Rattle.mld_ops.specs.declared.messages.Message.{Message}
 use Rattle.tree_clock.specs.declared.dots.Range.{Range}
-use Rattle.clone_core.specs.journal_sides.Pairs.{Kept, Damages, read_banks}
-use Rattle.clone_core.specs.journal_store.Standing.{KeepsJust}
-use Rattle.clone_core.specs.journal_store.declared.faults.MountFault.TheVariants as mount
+use Rattle.crash_laws.specs.journal_sides.Pairs.{Kept, Damages, read_banks}
+use Rattle.crash_laws.specs.journal_store.Standing.{KeepsJust}
+use Rattle.crash_laws.specs.journal_store.declared.faults.MountFault.TheVariants as mount
 use Rattle.mld_model.specs.declared.CloneState.TheVariants as states
 use Rattle.mld_model.specs.Clone.{Clone, Stored, kept_of}
 use Rattle.mld_model.specs.Clone as model
@@ -29,10 +29,10 @@ use Rattle.schedule_model.specs.Step.{Step}
 use Rattle.schedule_model.specs.WorldStep.{Follows, IsMissingReply, IsStandingReply}
 use Rattle.schedule_model.proofs.ChangesLaws.{step_keeps_domain}
 use Rattle.schedule_model.proofs.StopLaws.{stop_live, stop_missing, open_standing, open_stored, open_empty}
-use Rattle.clone_core.specs.Banked.{KeepsClone, kept_as}
-use Rattle.clone_core.specs.Opening.{TellsClone, OpensClone, banks_of_mounted, SyncsBoth, FailsToOpen, mount_calls}
-use Rattle.clone_core.specs.declared.mounts.Mounted.{Mounted}
-use Rattle.clone_core.specs.declared.mounts.Mounted.TheVariants as mounted
+use Rattle.crash_laws.specs.clone_core.Banked.{KeepsClone, kept_as}
+use Rattle.crash_laws.specs.clone_core.Opening.{TellsClone, OpensClone, banks_of_mounted, SyncsBoth, FailsToOpen, mount_calls}
+use Rattle.crash_laws.specs.clone_core.declared.mounts.Mounted.{Mounted}
+use Rattle.crash_laws.specs.clone_core.declared.mounts.Mounted.TheVariants as mounted
 use Rattle.crash_laws.specs.CarriedSteps.{stored_in}
 use Rattle.world_commands.specs.declared.faults.WorldFault.{WorldFault}
 use Rattle.world_commands.specs.declared.parts.Parts.{Parts}

@@ -16,7 +16,7 @@ use Rattle.schedule_model.specs.declared.Command.{Command}
 use Rattle.schedule_model.specs.Step.{Step, number_of_clone}
 use Rattle.schedule_model.specs.WorldStep.{Follows, IsMissingReply}
 use Rattle.schedule_model.proofs.WorldLaws.{next_tick_within}
-use Rattle.clone_core.specs.Banked.{BankedClone}
+use Rattle.crash_laws.specs.clone_core.Banked.{BankedClone}
 use Rattle.world_commands.specs.declared.parts.Parts.{Parts}
 use Rattle.schedule_replies.specs.declared.replies.Reply.{Reply as CodeReply}
 use Rattle.world_commands.specs.WorldParts.{running_of, HasStepLeft, KeepsDomain, Does}

@@ -4,7 +4,7 @@ use Rattle.mld_ops.specs.Messages.{MessageValue, message_value}
 use Rattle.mld_ops.specs.declared.messages.Message.{Message}
 use Rattle.mld_ops.specs.declared.messages.Message.TheVariants as kinds
 use Rattle.mld_model.specs.declared.CloneState.TheVariants as states
-use Rattle.clone_core.specs.Banked.{BankedAsker}
+use Rattle.crash_laws.specs.clone_core.Banked.{BankedAsker}
 use Rattle.schedule_replies.specs.declared.replies.Reply.{Reply}
 use Rattle.schedule_replies.specs.declared.replies.Reply.TheVariants as replies
 use Rattle.world_commands.specs.States.{IsNewAsker, Becomes}

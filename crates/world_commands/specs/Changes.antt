@@ -5,10 +5,10 @@ use Rattle.mld_ops.specs.Entry.{EntryValue}
 use Rattle.mld_ops.specs.Messages.{MessageValue, CarriesEntry}
 use Rattle.mld_ops.specs.Ready.{last_dot}
 use Rattle.mld_model.specs.Local.{LocalClone}
-use Rattle.clone_core.specs.clone_parts.declared.answers.Done.TheVariants as done
-use Rattle.clone_core.specs.clone_parts.declared.faults.UpdateFault.{UpdateFault}
-use Rattle.clone_core.specs.clone_parts.declared.faults.UpdateFault.TheVariants as faults
-use Rattle.clone_core.specs.CloneUpdates.{LocallyUpdatesBy, RefusesUpdate}
+use Rattle.crash_laws.specs.clone_parts.declared.answers.Done.TheVariants as done
+use Rattle.crash_laws.specs.clone_parts.declared.faults.UpdateFault.{UpdateFault}
+use Rattle.crash_laws.specs.clone_parts.declared.faults.UpdateFault.TheVariants as faults
+use Rattle.crash_laws.specs.clone_core.CloneUpdates.{LocallyUpdatesBy, RefusesUpdate}
 use Rattle.schedule_replies.specs.declared.replies.Reply.{Reply}
 use Rattle.schedule_replies.specs.declared.replies.Reply.TheVariants as replies
 

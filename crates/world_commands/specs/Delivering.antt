@@ -8,13 +8,13 @@ use Rattle.mld_model.specs.Local.{LocalAsker, LocalClone, joined_clone}
 use Rattle.mld_model.specs.LocalStep.{IsForeignTo}
 use Rattle.mld_model.specs.StandsFor.{RunningClone}
 use Rattle.schedule_model.specs.WorldStep.{IsAwayReply}
-use Rattle.clone_core.specs.Banked.{BankedClone}
-use Rattle.clone_core.specs.CloneCalls.{LocallyReceives, Refuses}
-use Rattle.clone_core.specs.Joining.{IsGiveFor, GivesNone}
-use Rattle.clone_core.specs.declared.askers.Adopted.{Adopted}
-use Rattle.clone_core.specs.declared.askers.Adopted.TheVariants as adopted
-use Rattle.clone_core.specs.clone_parts.declared.answers.Got.TheVariants as got
-use Rattle.clone_core.specs.clone_parts.declared.faults.ReceiveFault.TheVariants as fault
+use Rattle.crash_laws.specs.clone_core.Banked.{BankedClone}
+use Rattle.crash_laws.specs.clone_core.CloneCalls.{LocallyReceives, Refuses}
+use Rattle.crash_laws.specs.clone_core.Joining.{IsGiveFor, GivesNone}
+use Rattle.crash_laws.specs.clone_core.declared.askers.Adopted.{Adopted}
+use Rattle.crash_laws.specs.clone_core.declared.askers.Adopted.TheVariants as adopted
+use Rattle.crash_laws.specs.clone_parts.declared.answers.Got.TheVariants as got
+use Rattle.crash_laws.specs.clone_parts.declared.faults.ReceiveFault.TheVariants as fault
 use Rattle.world_commands.specs.declared.deliver.Received.{Received}
 use Rattle.world_commands.specs.declared.deliver.Received.TheVariants as received
 use Rattle.world_commands.specs.declared.faults.WorldFault.{WorldFault}

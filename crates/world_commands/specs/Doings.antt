@@ -14,14 +14,14 @@ use Rattle.mld_model.specs.Local.{LocalAsker, LocalClone, LocallyCompacts, Local
 use Rattle.mld_model.specs.StandsFor.{RunningClone}
 use Rattle.mld_model.specs.World.{numbered}
 use Rattle.mld_model.specs.declared.CloneState.TheVariants as states
-use Rattle.clone_core.specs.clone_parts.KeptSteps.{KeptStep, Appended}
-use Rattle.clone_core.specs.clone_parts.declared.answers.Done.TheVariants as done
-use Rattle.clone_core.specs.clone_parts.declared.answers.Got.{Got}
-use Rattle.clone_core.specs.clone_parts.declared.faults.ReceiveFault.TheVariants as fault
-use Rattle.clone_core.specs.CloneCalls.{LocallyReceives, Refuses}
-use Rattle.clone_core.specs.CloneUpdates.{IsDueUpdate, LocallyUpdatesBy, BreaksSingle}
-use Rattle.clone_core.specs.DurableCalls.{ReceivedSteps, WouldReceive, SwapsTo}
-use Rattle.clone_core.specs.Joining.{GivesNone}
+use Rattle.crash_laws.specs.clone_parts.KeptSteps.{KeptStep, Appended}
+use Rattle.crash_laws.specs.clone_parts.declared.answers.Done.TheVariants as done
+use Rattle.crash_laws.specs.clone_parts.declared.answers.Got.{Got}
+use Rattle.crash_laws.specs.clone_parts.declared.faults.ReceiveFault.TheVariants as fault
+use Rattle.crash_laws.specs.clone_core.CloneCalls.{LocallyReceives, Refuses}
+use Rattle.crash_laws.specs.clone_core.CloneUpdates.{IsDueUpdate, LocallyUpdatesBy, BreaksSingle}
+use Rattle.crash_laws.specs.clone_core.DurableCalls.{ReceivedSteps, WouldReceive, SwapsTo}
+use Rattle.crash_laws.specs.clone_core.Joining.{GivesNone}
 use Rattle.crash_laws.specs.Deeds.{HasLeafToGive}
 use Rattle.world_commands.specs.LeftBanks.{WorkOnBanks}
 use Rattle.world_commands.specs.declared.keeping.Keeping.{Keeping}

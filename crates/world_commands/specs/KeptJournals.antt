@@ -4,8 +4,8 @@ use Rattle.schedule_model.specs.declared.Command.{Command}
 use Rattle.schedule_model.specs.declared.Command.TheVariants as commands
 use Rattle.schedule_replies.specs.declared.replies.Reply.{Reply}
 use Rattle.schedule_replies.specs.declared.replies.Reply.TheVariants as replies
-use Rattle.clone_core.specs.Banked.{BankedClone}
-use Rattle.clone_core.specs.Keeping.{KeepsCompacted, KeepsTruncated}
+use Rattle.crash_laws.specs.clone_core.Banked.{BankedClone}
+use Rattle.crash_laws.specs.clone_core.Keeping.{KeepsCompacted, KeepsTruncated}
 use Rattle.world_commands.specs.declared.keeping.Keeping.{Keeping}
 use Rattle.world_commands.specs.declared.keeping.Keeping.TheVariants as keepings
 

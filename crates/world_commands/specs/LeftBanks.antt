@@ -4,14 +4,14 @@ use Rattle.std.specs.Prelude.{◌≡◌, ℕ, List, [], ◌∷◌, Option, Some,
 use Rattle.mld_io.specs.Arm.{Meter, Caught, LowersAtMost, LowersBy}
 use Rattle.mld_io.specs.Disk.{Log}
 use Rattle.mld_ops.specs.Messages.{GiveValue}
-use Rattle.clone_core.specs.journal_store.Crashes.{LeavesNothingNew}
+use Rattle.crash_laws.specs.journal_store.Crashes.{LeavesNothingNew}
 use Rattle.mld_model.specs.Local.{LocalAsker, LocalClone, joined_clone}
 use Rattle.mld_model.specs.StandsFor.{RunningClone}
 use Rattle.mld_model.specs.declared.CloneState.TheVariants as states
-use Rattle.clone_core.specs.clone_parts.KeptSteps.{KeptStep, Created, calls_of_all, LeavesMade}
-use Rattle.clone_core.specs.Banked.{BankedAsker, BankedClone, head_of}
-use Rattle.clone_core.specs.DurableCalls.{LeavesFronts}
-use Rattle.clone_core.specs.Opening.{mount_calls}
+use Rattle.crash_laws.specs.clone_parts.KeptSteps.{KeptStep, Created, calls_of_all, LeavesMade}
+use Rattle.crash_laws.specs.clone_core.Banked.{BankedAsker, BankedClone, head_of}
+use Rattle.crash_laws.specs.clone_core.DurableCalls.{LeavesFronts}
+use Rattle.crash_laws.specs.clone_core.Opening.{mount_calls}
 use Rattle.world_commands.specs.declared.faults.WorldFault.{WorldFault}
 use Rattle.world_commands.specs.declared.faults.WorldFault.TheVariants as faults
 use Rattle.world_commands.specs.States.{HasState}

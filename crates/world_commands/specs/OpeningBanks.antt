@@ -2,13 +2,13 @@
 use Rattle.std.specs.Prelude.{◌≡◌, ◌≢◌, ℕ, List, Option, Some, Result, Ok, Err}
 use Rattle.mld_io.specs.Disk.{Log, seen}
 use Rattle.mld_io.specs.declared.banks.Side.{Side}
-use Rattle.clone_core.specs.journal_sides.Pairs.{KeepsNone, Damages, read_banks}
-use Rattle.clone_core.specs.journal_store.declared.faults.MountFault.TheVariants as mount
+use Rattle.crash_laws.specs.journal_sides.Pairs.{KeepsNone, Damages, read_banks}
+use Rattle.crash_laws.specs.journal_store.declared.faults.MountFault.TheVariants as mount
 use Rattle.mld_model.specs.declared.CloneState.TheVariants as states
-use Rattle.clone_core.specs.Banked.{BankedAsker, BankedClone}
-use Rattle.clone_core.specs.Opening.{IsFoundAs, RunsAgain}
-use Rattle.clone_core.specs.declared.mounts.Mounted.{Mounted}
-use Rattle.clone_core.specs.declared.mounts.Mounted.TheVariants as mounted
+use Rattle.crash_laws.specs.clone_core.Banked.{BankedAsker, BankedClone}
+use Rattle.crash_laws.specs.clone_core.Opening.{IsFoundAs, RunsAgain}
+use Rattle.crash_laws.specs.clone_core.declared.mounts.Mounted.{Mounted}
+use Rattle.crash_laws.specs.clone_core.declared.mounts.Mounted.TheVariants as mounted
 use Rattle.world_commands.specs.declared.faults.WorldFault.{WorldFault}
 use Rattle.world_commands.specs.declared.faults.WorldFault.TheVariants as faults
 use Rattle.schedule_replies.specs.declared.replies.Reply.{Reply}

@@ -2,7 +2,7 @@
 use Rattle.std.specs.Prelude.{◌≡◌, ℕ, List, Option, Some, None}
 use Rattle.mld_io.specs.Disk.{Log}
 use Rattle.mld_model.specs.declared.CloneState.TheVariants as states
-use Rattle.clone_core.specs.Banked.{BankedClone, KeepsClone}
+use Rattle.crash_laws.specs.clone_core.Banked.{BankedClone, KeepsClone}
 use Rattle.world_commands.specs.States.{Becomes}
 use Rattle.world_commands.specs.WorldBanks.{BankedState}
 

@@ -3,15 +3,15 @@ use Rattle.std.specs.Prelude.{◌≡◌, ◌≢◌, ◌+◌, ◌≤◌, ◌⊎�
 use Rattle.mld_io.specs.Arm.{Meter, Unarmed, Caught}
 use Rattle.mld_io.specs.Disk.{Log}
 use Rattle.mld_io.specs.Faults.{counted}
-use Rattle.clone_core.specs.journal_sides.Pairs.{Kept}
-use Rattle.clone_core.specs.journal_store.Standing.{KeepsJust, KeepsNothing}
+use Rattle.crash_laws.specs.journal_sides.Pairs.{Kept}
+use Rattle.crash_laws.specs.journal_store.Standing.{KeepsJust, KeepsNothing}
 use Rattle.mld_ops.specs.Messages.{MessageValue}
 use Rattle.mld_model.specs.Clone.{Stored, kept_of}
 use Rattle.mld_model.specs.StandsFor.{RunningClone, RunningWorld, StandsFor, StoredStandsFor, id_of}
 use Rattle.mld_model.specs.World.{World, clone_at}
 use Rattle.mld_model.specs.declared.CloneState.{CloneState}
 use Rattle.mld_model.specs.declared.CloneState.TheVariants as states
-use Rattle.clone_core.specs.Banked.{BankedAsker, BankedClone}
+use Rattle.crash_laws.specs.clone_core.Banked.{BankedAsker, BankedClone}
 use Rattle.crash_laws.specs.CarriedSteps.{stored_in}
 use Rattle.world_commands.specs.declared.faults.WorldFault.{WorldFault}
 use Rattle.world_commands.specs.declared.faults.WorldFault.TheVariants as faults

@@ -1,10 +1,10 @@
 -- The end of a world: its clones stop, and their banks keep them. `stop_all` cites it.
 use Rattle.std.specs.Prelude.{◌≡◌, List, Option, Some, None}
 use Rattle.mld_io.specs.Disk.{Log}
-use Rattle.clone_core.specs.journal_store.Standing.{IsBlankLog}
+use Rattle.crash_laws.specs.journal_store.Standing.{IsBlankLog}
 use Rattle.mld_model.specs.declared.CloneState.TheVariants as states
 use Rattle.tree_clock.specs.Lists.{Has}
-use Rattle.clone_core.specs.Banked.{KeepsClone}
+use Rattle.crash_laws.specs.clone_core.Banked.{KeepsClone}
 use Rattle.world_commands.specs.WorldBanks.{BankedState}
 
 -- what the banks of a clone that isn't down keep: nothing where it never lived, and a live one, if it is open

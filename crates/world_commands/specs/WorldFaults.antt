@@ -1,7 +1,7 @@
 -- The faults of a world, after those of the banks of its clones. `made_fault` cites it.
 use Rattle.std.specs.Prelude.{ℕ}
-use Rattle.clone_core.specs.journal_store.declared.faults.MakeFault.{MakeFault}
-use Rattle.clone_core.specs.journal_store.declared.faults.MakeFault.TheVariants as make
+use Rattle.crash_laws.specs.journal_store.declared.faults.MakeFault.{MakeFault}
+use Rattle.crash_laws.specs.journal_store.declared.faults.MakeFault.TheVariants as make
 use Rattle.world_commands.specs.declared.faults.WorldFault.{WorldFault}
 use Rattle.world_commands.specs.declared.faults.WorldFault.TheVariants as faults
 

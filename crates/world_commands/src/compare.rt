@@ -7,7 +7,7 @@ ghost use Rattle.world_commands.specs.WorldParts.{Does};
 
 use crate::parts::Parts;
 use crate::states::live_at;
-use clone_core::{Covering, MldClone};
+use crash_laws::clone_core::{Covering, MldClone};
 use mld_io::{Banks, CrashBanks};
 use schedule_replies::Reply;
 

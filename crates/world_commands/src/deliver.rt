@@ -3,7 +3,7 @@ ghost use Rattle.std.specs.Prelude.{◌≡◌, ◌≢◌, ◌<◌, ◌^◌, ◌-
 ghost use Rattle.mld_ops.specs.Messages.{message_value, IsGoodMessage};
 ghost use Rattle.mld_model.specs.declared.CloneState.TheVariants as kinds;
 ghost use Rattle.schedule_model.specs.declared.Command.TheVariants as commands;
-ghost use Rattle.clone_core.specs.Banked.{BankedAsker};
+ghost use Rattle.crash_laws.specs.clone_core.Banked.{BankedAsker};
 ghost use Rattle.mld_model.specs.LocalStep.{IsForeignTo};
 ghost use Rattle.world_commands.specs.Delivering.{IsFitFor, ReceivesAt, ReceivesLive, IsToldOf, SendsAnswers};
 ghost use Rattle.world_commands.specs.States.{HasState};
@@ -18,7 +18,7 @@ ghost use Rattle.world_commands.specs.Doings.{doing_receive, doing_deliver};
 use crate::faults::{WorldFault, made_fault};
 use crate::parts::Parts;
 use crate::states::{RunningClone, put_state, state_reply, take_state};
-use clone_core::{Adopted, Got, MldClone, ReceiveFault};
+use crash_laws::clone_core::{Adopted, Got, MldClone, ReceiveFault};
 use mld_io::{Banks, CrashBanks};
 use mld_model::CloneState;
 use mld_ops::{Message, Messages};

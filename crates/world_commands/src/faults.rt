@@ -2,7 +2,7 @@
 ghost use Rattle.std.specs.Prelude.{◌≡◌};
 ghost use Rattle.world_commands.specs.WorldFaults.{fault_of_made};
 
-use clone_core::journal_store::MakeFault;
+use crash_laws::journal_store::MakeFault;
 use std::alloc::AllocError;
 use thiserror::Error;
 

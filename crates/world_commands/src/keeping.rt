@@ -1,7 +1,7 @@
 //! The commands `compact` and `truncate`: what a clone keeps of its journal.
 ghost use Rattle.std.specs.Prelude.{◌≡◌, ◌≢◌, ◌<◌, ◌^◌, ◌-◌, ℕ, length, vec_len, None, IfOk, IsOk, IsErrOf, OnOk};
 ghost use Rattle.mld_io.specs.Arm.{Metered};
-ghost use Rattle.clone_core.specs.journal_store.declared.faults.Why.{Why};
+ghost use Rattle.crash_laws.specs.journal_store.declared.faults.Why.{Why};
 ghost use Rattle.mld_model.specs.declared.CloneState.TheVariants as kinds;
 ghost use Rattle.world_commands.specs.KeptJournals.{keeping_command, KeepsBy, KeepsAs};
 ghost use Rattle.world_commands.specs.WorldBanks.{MeterGoesOn};
@@ -13,7 +13,7 @@ ghost use Rattle.world_commands.specs.WorldParts.{HasStepLeft, KeepsDomain, HasF
 use crate::faults::WorldFault;
 use crate::parts::Parts;
 use crate::states::state_reply;
-use clone_core::{KeepFault, MldClone};
+use crash_laws::clone_core::{KeepFault, MldClone};
 use mld_io::{Banks, CrashBanks};
 use mld_model::CloneState;
 use schedule_replies::Reply;

@@ -10,7 +10,7 @@ ghost use Rattle.world_commands.specs.WorldParts.{HasStepLeft, HasFaultsOfParts,
 use crate::faults::WorldFault;
 use crate::parts::Parts;
 use crate::states::live_at;
-use clone_core::MldClone;
+use crash_laws::clone_core::MldClone;
 use mld_io::{Banks, CrashBanks};
 use schedule_model::jrql_patterns::ReadQuery;
 use schedule_replies::{Reply, reply_to_query};

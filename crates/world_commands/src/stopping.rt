@@ -1,6 +1,6 @@
 //! Clones stop: the command `stop`, and the end of a world.
 ghost use Rattle.std.specs.Prelude.{◌≡◌, ◌+◌, ◌<◌, ◌≤◌, ◌++◌, map, vec_len, vec_capacity};
-ghost use Rattle.clone_core.specs.Banked.{BankedClone};
+ghost use Rattle.crash_laws.specs.clone_core.Banked.{BankedClone};
 ghost use Rattle.mld_model.specs.declared.CloneState.TheVariants as kinds;
 ghost use Rattle.schedule_model.specs.declared.Command.TheVariants as commands;
 ghost use Rattle.world_commands.specs.States.{HasState};

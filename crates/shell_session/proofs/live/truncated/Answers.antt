@@ -1,7 +1,7 @@
 use Rattle.std.proofs.Common.{◌<◌, Ok, Err, refl, sym, subst, length}
 use Rattle.mld_model.specs.Local.{LocallyTruncates}
 use Rattle.mld_model.specs.Reply.{Kept}
-use Rattle.clone_core.specs.clone_parts.declared.faults.KeepFault.{KeepFault}
+use Rattle.crash_laws.specs.clone_parts.declared.faults.KeepFault.{KeepFault}
 use Rattle.shell_session.specs.ShellReply.{Says, GenerationsSpent}
 use Rattle.shell_session.proofs.LiveLaws.{IsKeepReply, keep_goes, truncates_either}
 use Rattle.shell_session.proofs.live.truncated.Goals as goal

@@ -1,8 +1,8 @@
 use Rattle.std.proofs.Common.{Ok, Err, refl, sym, ap, subst}
 use Rattle.tree_clock.specs.declared.dots.Dot.{Dot}
 use Rattle.mld_model.specs.Reply.{NoOperation, TooMany, Single}
-use Rattle.clone_core.specs.clone_parts.declared.answers.Done.{Done}
-use Rattle.clone_core.specs.clone_parts.declared.faults.UpdateFault.{UpdateFault}
+use Rattle.crash_laws.specs.clone_parts.declared.answers.Done.{Done}
+use Rattle.crash_laws.specs.clone_parts.declared.faults.UpdateFault.{UpdateFault}
 use Rattle.shell_session.specs.ShellReply.{Says, DidAt, TicksSpent}
 use Rattle.shell_session.proofs.LiveLaws.{IsUpdateReply, update_goes}
 use Rattle.shell_session.proofs.live.updated.Goals as goal

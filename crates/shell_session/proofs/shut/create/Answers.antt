@@ -1,5 +1,5 @@
 use Rattle.std.proofs.Common.{◌≡◌, ◌++◌, refl, sym, subst}
-use Rattle.clone_core.proofs.of_journal_store.ClosingLaws.{told_then}
+use Rattle.crash_laws.proofs.of_journal_store.ClosingLaws.{told_then}
 use Rattle.shell_session.specs.declared.commands.ShellCommand.TheVariants as commands
 use Rattle.shell_session.specs.Shells.{Shell}
 use Rattle.shell_session.specs.ShellReply.{NotEmpty, shell_text}

@@ -1,6 +1,6 @@
 use Rattle.std.proofs.Common.{◌≡◌, Ok, Err, IsOk, true, false, sym, subst}
 use Rattle.std.proofs.lemmas.Bool.{false≢true}
-use Rattle.clone_core.specs.clone_parts.declared.faults.UpdateFault.{UpdateFault}
+use Rattle.crash_laws.specs.clone_parts.declared.faults.UpdateFault.{UpdateFault}
 use Rattle.world_commands.proofs.LeftLemmas.{UpdateAnswers, update_left}
 use Rattle.world_commands.proofs.changes.update_live.Goals as goal
 

@@ -1,7 +1,7 @@
 use Rattle.std.proofs.Common.{IsOk, arith, ap, refl, sym, subst, List, ℕ, map, set}
 use Rattle.std.proofs.lemmas.Result.{IfOk-weaker, on_ok_weaker}
 use Rattle.mld_model.specs.declared.CloneState.TheVariants as states
-use Rattle.clone_core.specs.Joining.{GivesNone}
+use Rattle.crash_laws.specs.clone_core.Joining.{GivesNone}
 use Rattle.world_commands.specs.Delivering.{WhereAway, WhereLive}
 use Rattle.schedule_replies.specs.Replies.{reply_value}
 use Rattle.world_commands.specs.States.{HasState, Becomes}

@@ -1,6 +1,6 @@
 use Rattle.std.proofs.Common.{◌≡◌, Ok, Err, true, false, sym, subst}
 use Rattle.std.proofs.lemmas.Bool.{false≢true}
-use Rattle.clone_core.specs.clone_parts.declared.faults.ReceiveFault.{ReceiveFault}
+use Rattle.crash_laws.specs.clone_parts.declared.faults.ReceiveFault.{ReceiveFault}
 use Rattle.world_commands.proofs.LeftLemmas.{MessageAnswers, receive_left}
 use Rattle.world_commands.proofs.deliver.receive_live.Goals as goal
 

@@ -1,5 +1,5 @@
 use Rattle.std.proofs.Common.{IsOk, subst, sym}
-use Rattle.clone_core.specs.clone_parts.KeptSteps.{calls_of_all}
+use Rattle.crash_laws.specs.clone_parts.KeptSteps.{calls_of_all}
 use Rattle.mld_model.specs.declared.CloneState.TheVariants as states
 use Rattle.world_commands.specs.declared.keeping.Keeping.{Keeping}
 use Rattle.world_commands.specs.declared.keeping.Keeping.TheVariants as keepings

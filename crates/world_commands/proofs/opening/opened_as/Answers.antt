@@ -1,5 +1,5 @@
 use Rattle.std.proofs.Common.{Ok, refl, sym, subst}
-use Rattle.clone_core.specs.declared.mounts.Mounted.{Mounted}
+use Rattle.crash_laws.specs.clone_core.declared.mounts.Mounted.{Mounted}
 use Rattle.mld_model.specs.declared.CloneState.TheVariants as states
 use Rattle.schedule_replies.specs.declared.replies.Reply.TheVariants as replies
 use Rattle.world_commands.specs.OpeningBanks.{IsOpenedAs}
