@@ -1,4 +1,4 @@
-//! Clocks that are raised, merged and compared.
+//! Clocks that are raised, merged and compared, and their own paths.
 use crate::made::{clock, left, right};
 use std::alloc::{AllocError, Global};
 use std::test::Fail;
@@ -39,5 +39,34 @@ fn clocks_are_raised_merged_and_compared(rt: HostRuntime) -> Result<(), Fail> {
     both.merge(&there)?;
     assert!(rt; has_both(alloc, &both)? && has_four(&both));
     assert!(rt; are_compared(&here, &there, &both));
+    Ok(())
+}
+
+// Makes a path with ticks the own one of a clock; whether it has ticks.
+fn makes_own(clock: &mut Clock, path: &Path) -> bool {
+    if clock.ticks(path) == 0 {
+        return false;
+    }
+    clock.set_own(path);
+    true
+}
+
+// Whether a clock's own path is that of a dot, and the dot its last one.
+fn has_own(clock: &Clock, last: &Dot) -> bool {
+    match clock.own() {
+        Some(own) => own == *last,
+        None => false,
+    }
+}
+
+#[test]
+fn a_clock_has_an_own_path(rt: HostRuntime) -> Result<(), Fail> {
+    let alloc = rt.alloc();
+    let mut here = Box::new(alloc, clock(alloc, &[root(1), left(4)])?)?;
+    assert!(rt; here.own().is_none() && !makes_own(&mut here, &right(1).path));
+    assert!(rt; makes_own(&mut here, &left(4).path) && has_own(&here, &left(4)));
+    let copy = Box::new(alloc, here.copy_in(alloc)?)?;
+    assert!(rt; makes_own(&mut here, &root(1).path) && has_own(&here, &root(1)));
+    assert!(rt; has_own(&copy, &left(4)));
     Ok(())
 }
