@@ -143,6 +143,23 @@ fn is_found(alloc: Global, list: &Chunked<Number>) -> Result<bool, AllocError>
     })
 }
 
+// Whether a number stands at a place.
+fn stands_at(list: &Chunked<Number>, place: usize, number: u32) -> bool {
+    place < list.len() && list.at(place).value == number
+}
+
+// The same numbers stand at the places from 30 to 34.
+fn is_spanned(alloc: Global, list: &Chunked<Number>) -> Result<bool, AllocError> {
+    if list.len() < 34 {
+        return Ok(false);
+    }
+    let found = list.from_to(alloc, 30, 34)?;
+    Ok(match found.as_slice() {
+        [a, b, c, d] => a.value == 30 && b.value == 31 && c.value == 64 && d.value == 65,
+        _ => false,
+    })
+}
+
 // Whether so many numbers pass a test.
 fn has_under(
     alloc: Global,
@@ -181,6 +198,8 @@ fn chunks_split_and_go_at_their_borders(rt: HostRuntime) -> Result<(), Fail> {
     let mut list = boxed(alloc, Chunked::new(alloc))?;
     assert!(rt; are_split(alloc, &mut list));
     assert!(rt; is_found(alloc, &list)? && has_under(alloc, &list, 66, 34)?);
+    assert!(rt; is_spanned(alloc, &list)?);
+    assert!(rt; stands_at(&list, 31, 31) && stands_at(&list, 32, 64) && stands_at(&list, 63, 95));
     assert!(rt; is_emptied(&mut list));
     Ok(())
 }
