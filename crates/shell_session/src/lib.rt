@@ -13,9 +13,8 @@ mod sessions;
 mod shut;
 mod words;
 
-pub use crash_laws::clone_core;
-pub use crash_laws::{clone_parts, journal_sides, journal_store};
 pub use commands::ShellCommand;
+pub use crash_laws::{clone_core, clone_parts, journal_sides, journal_store};
 pub use faults::SessionFault;
 pub use laws::one_shell_command;
 pub use lines::read_shell;

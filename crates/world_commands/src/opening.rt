@@ -15,8 +15,8 @@ use crate::parts::Parts;
 use crate::states::{
     Named, RunningClone, copy_named, new_asker, put_state, state_reply, take_state,
 };
-use crash_laws::journal_store::MountFault;
 use crash_laws::clone_core::{MldClone, Mounted};
+use crash_laws::journal_store::MountFault;
 use mld_io::{Banks, CrashBanks};
 use mld_model::CloneState;
 use schedule_replies::Reply;

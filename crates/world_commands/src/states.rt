@@ -7,8 +7,8 @@ ghost use Rattle.world_commands.specs.States.{IsNewAsker, HasState, IsMissingAt,
 ghost use Rattle.schedule_replies.specs.Replies.{reply_value};
 ghost use Rattle.world_commands.specs.WorldBanks.{BankedState, in_memory};
 
-use crash_laws::journal_store::Blank;
 use crash_laws::clone_core::{Asker, MldClone};
+use crash_laws::journal_store::Blank;
 use mld_io::Banks;
 use mld_model::CloneState;
 use mld_ops::copy_properties;
