@@ -1,4 +1,5 @@
--- What contracts see of a graph, and when a cut fits into it. `Graph::prepare` and `Graph::apply` cite it, and so does the model of `Graph`.
+-- What contracts see of a graph by numbers, and when a cut fits into it. `NumberedGraph::prepare` and `NumberedGraph::apply` cite it, and so
+-- does the model of `NumberedGraph`.
 use Rattle.std.specs.Prelude.{ℕ, ◌≤◌, List, [], ◌∷◌, map, vec_len}
 use Rattle.std.specs.declared.cmp.Ordering.{Ordering}
 use Rattle.std.specs.declared.cmp.Ordering.TheVariants.{Less, Equal, Greater}

@@ -1,5 +1,5 @@
 -- Numbers of terms, paths and pairs: a number is the place of a value in a table. Private calls of `Tables` cite it, and so does the
--- invariant of `Graph`.
+-- invariant of `NumberedGraph`.
 use Rattle.std.specs.Prelude.{◌≡◌, ℕ, ◌⊎◌, List, Bool, nat_eq, Option, None, Some, position}
 use Rattle.std.specs.Cmp.Lexicographic.{pointwise}
 use Rattle.std.specs.Option.{option_map}
