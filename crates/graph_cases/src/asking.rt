@@ -3,8 +3,8 @@ ghost use Rattle.std.specs.Prelude.{◌≡◌, ◌<◌};
 
 use crate::answers::{Answer, Answers};
 use crate::lists::Both;
+use graph_index::{Graph, Steps};
 use mld_ops::{Tagged, Tags};
-use numbered_graph::{CountedSteps, NumberedGraph};
 use rdf_terms::{Iri, Term};
 use std::alloc::{AllocError, Global};
 use std::marker::Brand;
@@ -92,7 +92,7 @@ fn scan(alloc: Global, both: &Both, parts: Parts<'_>) -> Result<Answer, AllocErr
 /// The same, in whatever order, with steps that are counted in a ledger of their own.
 fn pairs_in<'a, L: Ledger>(
     alloc: Global,
-    graph: &'a NumberedGraph,
+    graph: &'a Graph,
     parts: Parts<'_>,
     blank: Blank,
 ) -> Result<Vec<&'a Tagged>, AllocError>
@@ -101,6 +101,6 @@ fn pairs_in<'a, L: Ledger>(
     requires some { 0 < L.parts }
 {
     let (s, p, o) = parts;
-    let mut steps = CountedSteps::<L>::new(blank);
+    let mut steps = Steps::<L>::new(blank);
     graph.scan(alloc, s, p, o, &mut steps)
 }

@@ -2,15 +2,15 @@
 ghost use Rattle.std.specs.Prelude.{◌↔◌, IsTrue};
 ghost use Rattle.tree_clock.specs.Lists.{IsAscending};
 
+use graph_index::Graph;
 use mld_ops::{Cut, Tagged, copy_pairs};
-use numbered_graph::NumberedGraph;
 use std::alloc::{AllocError, Global};
 
 /// A graph, and the pairs that it should have, in order.
 #[derive(Drop)]
 pub struct Both {
     /// The graph.
-    pub graph: NumberedGraph,
+    pub graph: Graph,
     /// The pairs.
     pub list: Vec<Tagged>,
 }
@@ -40,12 +40,12 @@ fn is_ascending<T: Ord>(items: &[T]) -> bool
 }
 
 /// The graph of a list in order. Of any other it is empty.
-fn graph_of(alloc: Global, list: &[Tagged]) -> Result<NumberedGraph, AllocError> {
+fn graph_of(alloc: Global, list: &[Tagged]) -> Result<Graph, AllocError> {
     let copy = copy_pairs(alloc, list)?;
     if is_ascending(&copy) {
-        NumberedGraph::from_list(alloc, copy)
+        Graph::from_list(alloc, copy)
     } else {
-        Ok(NumberedGraph::empty(alloc))
+        Ok(Graph::empty(alloc))
     }
 }
 

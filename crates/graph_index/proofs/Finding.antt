@@ -1,97 +1,349 @@
--- The first pair of an ascending list that isn't before a triple.
-use Rattle.std.proofs.Common.{◌≡◌, ◌∙◌, List, [], ◌∷◌, Bool, true, false, not, ◌&&◌, Option, None, Some, IsTrue, ◌↔◌, refl, sym, subst, ap, inl, inr}
-use Rattle.std.proofs.lemmas.Bool.{true≢false, false≢true}
-use Rattle.std.proofs.lemmas.Cmp.{tied_itself}
-use Rattle.std.proofs.lemmas.List.Elements.{filter_agree}
+-- What is found of numbered pairs by their numbers is what is found of the graph by its terms.
+use Rattle.std.proofs.Common.{◌≡◌, ◌∙◌, ℕ, ◌+◌, ◌*◌, ◌≤◌, suc, List, [], ◌∷◌, Bool, true, false, ◌&&◌, nat_eq, nat_le, length, map, Option, None, Some, ◌↔◌, ◌⊎◌, cond, IsTrue, refl, sym, subst, ap, inl, inr, arith}
+use Rattle.std.proofs.lemmas.Bool.{and_parts, and_from, true≢false, false≢true}
+use Rattle.std.proofs.lemmas.Bool.Decides.{eqb_tells}
+use Rattle.std.specs.Bool.{Decides}
+use Rattle.std.specs.Cmp.Lexicographic.{pointwise, bytes_decides}
 use Rattle.std.specs.List.{filter}
-use Rattle.std.specs.Ordering.{is_lt, is_le, is_eq, eq_by_cmp}
+use Rattle.std.specs.Option.{option_map}
+use Rattle.std.specs.Ordering.{eq_by_cmp, is_eq}
+use Rattle.std.specs.declared.cmp.Ordering.{Ordering}
+use Rattle.std.specs.declared.cmp.Ordering.TheVariants.{Less, Equal, Greater}
+use Rattle.std.proofs.lemmas.Cmp.{tied_itself}
+use Rattle.rdf_terms.specs.declared.terms.Term.{Term}
+use Rattle.rdf_terms.specs.declared.terms.Term.TheVariants as terms
 use Rattle.rdf_terms.specs.declared.terms.Triple.{Triple}
-use Rattle.rdf_terms.specs.Order.{triple_cmp}
+use Rattle.rdf_terms.specs.Order.{term_cmp, triple_cmp}
 use Rattle.rdf_terms.specs.OrderLaws.{triple_total, triple_exact}
-use Rattle.tree_clock.specs.Dot.{dot_cmp}
+use Rattle.tree_clock.specs.declared.dots.Dot.{Dot}
+use Rattle.tree_clock.specs.declared.dots.Range.{Range}
 use Rattle.tree_clock.specs.Lists.{Has, IsAscending}
 use Rattle.mld_ops.specs.declared.tagged.Tagged.{Tagged}
 use Rattle.mld_ops.specs.Tagged.{tagged_cmp}
-use Rattle.mld_ops.proofs.AscendingLaws.{below_member}
-use Rattle.chunked_list.specs.Parted.{IsParted, IsFirstOf, is_between}
-use Rattle.graph_index.specs.Matching.{is_of, HasTriple}
-use Rattle.graph_index.specs.Fronts.{front_cmp}
-use Rattle.graph_index.proofs.Fronting.{is_before_front, is_up_to_front, before_front, up_to_front, then_cases, tied}
-use Rattle.graph_index.proofs.Keys.{equal_between}
+use Rattle.mld_ops.proofs.AscendingLaws.{has_filter, ascending_filter}
+use Rattle.pair_orders.specs.declared.keys.Numbers.{Numbers}
+use Rattle.pair_orders.specs.declared.keys.Places.{Places}
+use Rattle.pair_orders.specs.Keys.{has_places, is_wanted}
+use Rattle.pair_orders.specs.Orders.{binary_digits}
+use Rattle.pair_orders.specs.PairEntries.{StandOnce, HasNumbers, HasTerms, FindsEntries, is_of_ticks}
+use Rattle.graph_index.specs.Graphs.{in_order_of, pairs_of}
+use Rattle.graph_index.specs.Matching.{has_iri, is_term, matches, is_of, is_within_range, FindsEach, HasTriple}
+use Rattle.graph_index.specs.TermNumbers.{TablesValue, AreNumbersOf, HaveOwnNumbers, IsNumbered, iri_number, term_number, path_number, number_given, ArePlaces, LackNumber}
+use Rattle.graph_index.proofs.Numbers.{same_iri, same_term, same_path, same_pair, same_numbers, term_decides}
+use Rattle.graph_index.proofs.Moving.{once_by_numbers}
+use Rattle.graph_index.proofs.Places.{some_injective}
+use Rattle.graph_index.proofs.Putting.{order_members, order_ascends, order_is, order_count, order_length}
+use Rattle.graph_index.proofs.Sorting.{has_image, image_has}
 
--- where all parts are given, they are a triple
-front_triple : (triple t : Triple) → front_cmp triple.s (Some triple.p) (Some triple.o) t ≡ triple_cmp t triple
-unfolding triple_cmp
-front_triple triple t = refl
+-- ---- one part: that it is the given one, and that its number is the wanted one
 
--- whether a pair is before the pairs with the triple
-abbrev pub is_before : Triple → Tagged → Bool
-is_before triple = is_before_front triple.s (Some triple.p) (Some triple.o)
-
-not_itself : (triple : Triple) → is_lt (front_cmp triple.s (Some triple.p) (Some triple.o) triple) ≡ true → ⊥
-not_itself triple h = false≢true (sym (ap is_lt (front_triple triple triple ∙ tied_itself triple_total triple)) ∙ h)
-
--- the pairs with the triple stand together
-pub before_triple : (triple : Triple) (xs : List Tagged) → IsAscending tagged_cmp xs → IsParted (is_before triple) xs
-before_triple triple = before_front triple.s (Some triple.p) (Some triple.o)
-
-pub up_to_triple : (triple : Triple) (xs : List Tagged) → IsAscending tagged_cmp xs → IsParted (is_up_to_front triple.s (Some triple.p) (Some triple.o)) xs
-up_to_triple triple = up_to_front triple.s (Some triple.p) (Some triple.o)
-
-pub with_triple_between : (triple : Triple) (xs : List Tagged) → filter (is_between (is_before triple) (is_up_to_front triple.s (Some triple.p) (Some triple.o))) xs ≡ filter (is_of triple) xs
-with_triple_between triple = filter_agree (is_between (is_before triple) (is_up_to_front triple.s (Some triple.p) (Some triple.o))) (is_of triple)
-    (λ x. ap (λ w. not (is_lt w) && is_le w) (front_triple triple x.triple) ∙ equal_between triple_cmp triple_total x.triple triple)
-
--- the first one that isn't before the triple has it, where some pair does
-pub first_has : (triple : Triple) (xs : List Tagged) (first : Option Tagged) → IsAscending tagged_cmp xs → IsFirstOf (is_before triple) xs first
-    → HasTriple xs triple → (pair : Tagged) × (first ≡ Some pair) × (pair.triple ≡ triple)
-first_has triple [] first a f h = absurd h.1
-first_has triple (x ∷ xs) first a (inl f) h = elim h.1 [
-  | inl e ↦ absurd (not_itself triple (subst (λ (w : Tagged). is_before triple w ≡ true) e f.0))
-  | inr k ↦ first_has triple xs first a.1 f.1 (h.0, k)
+nat_decides : (a b : ℕ) → (nat_eq a b ≡ true → a ≡ b) × (a ≡ b → nat_eq a b ≡ true)
+nat_decides a b = elim (eqb_tells a b) [
+  | inl p ↦ (λ h. p.1, λ e. p.0)
+  | inr p ↦ (λ h. absurd (true≢false (sym h ∙ p.0)), λ e. absurd (p.1 e))
 ]
-first_has triple (x ∷ xs) first a (inr f) h = (
-  x,
-  f.1,
-  elim h.1 [
-    | inl e ↦ ap (λ (w : Tagged). w.triple) e
-    | inr k ↦ elim (then_cases (triple_cmp x.triple triple) (dot_cmp x.dot h.0) (below_member tagged_cmp x xs (record { triple = triple; dot = h.0 }) a.0 k)) [
-      | inl e ↦ absurd (true≢false (sym (ap is_lt (front_triple triple x.triple ∙ e)) ∙ f.0))
-      | inr e ↦ triple_exact x.triple triple e
-    ]
-  ],
-)
 
--- a first one that has the triple is a member
-pub first_is_member : (triple : Triple) (xs : List Tagged) (pair : Tagged) → IsFirstOf (is_before triple) xs (Some pair) → Has xs pair
-first_is_member triple [] pair f = cc
-first_is_member triple (x ∷ xs) pair (inl f) = inr (first_is_member triple xs pair f.1)
-first_is_member triple (x ∷ xs) pair (inr f) = inl (some_same f.1)
+same_tests : (b c : Bool) → (b ≡ true → c ≡ true) → (c ≡ true → b ≡ true) → b ≡ c
+same_tests true true f g = refl
+same_tests true false f g = sym (f refl)
+same_tests false true f g = g refl
+same_tests false false f g = refl
+
+module _ {X : Type 0} (eq : X → X → Bool) (decides : (a b : X) → Decides (eq a b) (a ≡ b)) (number : X → Option ℕ)
+    (same : (a b : X) (n : ℕ) → number a ≡ Some n → number b ≡ Some n → a ≡ b) where
+  -- whether a part, where one is given, is this one
+  abbrev is_part : Option X → X → Bool
+  is_part None x = true
+  is_part (Some given) x = eq given x
+
+  no_number : {Y : Type 0} (given : X) → option_map (λ n. Some n) (number given) ≡ None → (n : ℕ) → number given ≡ Some n → Y
+  no_number given h n e = absurd (by (number given) h e)
+    where
+      by : (o : Option ℕ) → option_map (λ n. Some n) o ≡ None → o ≡ Some n → ⊥
+      by None h e = cc
+      by (Some m) h e = cc
+
+  given_number : (given : X) (wanted : Option ℕ) → option_map (λ n. Some n) (number given) ≡ Some wanted → (n : ℕ) × (number given ≡ Some n) × (wanted ≡ Some n)
+  given_number given wanted h = by (number given) refl h
+    where
+      by : (o : Option ℕ) → number given ≡ o → option_map (λ n. Some n) o ≡ Some wanted → (n : ℕ) × (number given ≡ Some n) × (wanted ≡ Some n)
+      by None e h = cc
+      by (Some m) e h = (m, e, sym (some_injective (Some m) wanted h))
+
+  pub part_wanted : (given : Option X) (wanted : Option ℕ) (x : X) (n : ℕ) → number_given number given ≡ Some wanted → number x ≡ Some n → is_part given x ≡ is_wanted wanted n
+  part_wanted None wanted x n h e = let w : wanted ≡ None = sym (some_injective None wanted h) in ap (λ w. is_wanted w n) (sym w)
+  part_wanted (Some given) wanted x n h e =
+      let g = given_number given wanted h in
+      same_tests (eq given x) (nat_eq g.0 n)
+      (λ t. (nat_decides g.0 n).1 (some_injective g.0 n (sym g.1 ∙ ap number ((decides given x).0 t) ∙ e)))
+      (λ t. (decides given x).1 (same given x n (g.1 ∙ ap (λ m. Some m) ((nat_decides g.0 n).0 t)) e))
+      ∙ ap (λ w. is_wanted w n) (sym g.2)
+
+  pub part_lacks : {Y : Type 0} (given : Option X) (x : X) (n : ℕ) → number_given number given ≡ None → number x ≡ Some n → is_part given x ≡ true → Y
+  part_lacks None x n h e t = cc
+  part_lacks (Some given) x n h e t = no_number given h n (ap number ((decides given x).0 t) ∙ e)
+
+-- ---- all parts
+
+module _ (tables : TablesValue) (s p : Option (List ℕ)) (o : Option Term) where
+  iri_same : (a b : List ℕ) (n : ℕ) → iri_number tables a ≡ Some n → iri_number tables b ≡ Some n → a ≡ b
+  iri_same a b n h k = same_iri tables.terms a b n h k
+
+  term_same : (a b : Term) (n : ℕ) → term_number tables.terms a ≡ Some n → term_number tables.terms b ≡ Some n → a ≡ b
+  term_same a b n h k = same_term tables.terms a b n h k
+
+  as_iri : (given : Option (List ℕ)) (x : List ℕ) → has_iri given x ≡ is_part (pointwise nat_eq) bytes_decides (iri_number tables) iri_same given x
+  as_iri None x = refl
+  as_iri (Some given) x = refl
+
+  as_term : (given : Option Term) (x : Term) → is_term given x ≡ is_part (eq_by_cmp term_cmp) term_decides (term_number tables.terms) term_same given x
+  as_term None x = refl
+  as_term (Some given) x = refl
+
+  -- a pair matches exactly where its numbers are the wanted ones
+  pub matches_wanted : (wanted : Places) (pair : Tagged) (numbers : Numbers) → ArePlaces tables s p o wanted → AreNumbersOf tables pair numbers → matches s p o pair ≡ has_places wanted numbers
+  matches_wanted wanted pair numbers are own =
+      let a = as_iri s pair.triple.s ∙ part_wanted (pointwise nat_eq) bytes_decides (iri_number tables) iri_same s wanted.s pair.triple.s numbers.s are.s_is own.s in
+      let b = as_iri p pair.triple.p ∙ part_wanted (pointwise nat_eq) bytes_decides (iri_number tables) iri_same p wanted.p pair.triple.p numbers.p are.p_is own.p in
+      let c = as_term o pair.triple.o ∙ part_wanted (eq_by_cmp term_cmp) term_decides (term_number tables.terms) term_same o wanted.o pair.triple.o numbers.o are.o_is own.o in
+      λ i. a i && (b i && c i)
+
+  -- no pair with numbers matches where a given part has none
+  pub matches_none : (pair : Tagged) (numbers : Numbers) → LackNumber tables s p o → AreNumbersOf tables pair numbers → matches s p o pair ≡ true → ⊥
+  matches_none pair numbers lack own h =
+      let t = and_parts (has_iri s pair.triple.s) (has_iri p pair.triple.p && is_term o pair.triple.o) h in
+      let u = and_parts (has_iri p pair.triple.p) (is_term o pair.triple.o) t.1 in
+      elim lack [
+        | inl n ↦ part_lacks (pointwise nat_eq) bytes_decides (iri_number tables) iri_same s pair.triple.s numbers.s n own.s (sym (as_iri s pair.triple.s) ∙ t.0)
+        | inr m ↦ elim m [
+          | inl n ↦ part_lacks (pointwise nat_eq) bytes_decides (iri_number tables) iri_same p pair.triple.p numbers.p n own.p (sym (as_iri p pair.triple.p) ∙ u.0)
+          | inr n ↦ part_lacks (eq_by_cmp term_cmp) term_decides (term_number tables.terms) term_same o pair.triple.o numbers.o n own.o (sym (as_term o pair.triple.o) ∙ u.1)
+        ]
+      ]
+
+-- ---- a triple's own parts
+
+triple_parts : (a b : Triple) → (pointwise nat_eq a.s b.s && (pointwise nat_eq a.p b.p && eq_by_cmp term_cmp a.o b.o)) ≡ true → a ≡ b
+triple_parts a b h =
+    let t = and_parts (pointwise nat_eq a.s b.s) (pointwise nat_eq a.p b.p && eq_by_cmp term_cmp a.o b.o) h in
+    let u = and_parts (pointwise nat_eq a.p b.p) (eq_by_cmp term_cmp a.o b.o) t.1 in
+    let s = (bytes_decides a.s b.s).0 t.0 in
+    let p = (bytes_decides a.p b.p).0 u.0 in
+    let o = (term_decides a.o b.o).0 u.1 in
+    λ i. record { s = s i; p = p i; o = o i }
+
+parts_of_triple : (a b : Triple) → a ≡ b → (pointwise nat_eq a.s b.s && (pointwise nat_eq a.p b.p && eq_by_cmp term_cmp a.o b.o)) ≡ true
+parts_of_triple a b e =
+    and_from (pointwise nat_eq a.s b.s) (pointwise nat_eq a.p b.p && eq_by_cmp term_cmp a.o b.o) ((bytes_decides a.s b.s).1 (ap (λ (w : Triple). w.s) e))
+    (and_from (pointwise nat_eq a.p b.p) (eq_by_cmp term_cmp a.o b.o) ((bytes_decides a.p b.p).1 (ap (λ (w : Triple). w.p) e)) ((term_decides a.o b.o).1 (ap (λ (w : Triple). w.o) e)))
+
+triple_told : (o : Ordering) → is_eq o ≡ true → o ≡ Equal
+triple_told Less h = absurd (false≢true h)
+triple_told Equal h = refl
+triple_told Greater h = absurd (false≢true h)
+
+matches_of : (triple : Triple) (pair : Tagged) → matches (Some triple.s) (Some triple.p) (Some triple.o) pair ≡ is_of triple pair
+matches_of triple pair =
+    same_tests (matches (Some triple.s) (Some triple.p) (Some triple.o) pair) (is_of triple pair)
+    (λ h. let e = triple_parts triple pair.triple h in ap (λ w. is_eq (triple_cmp triple w)) (sym e) ∙ ap is_eq (tied_itself triple_total triple))
+    (λ h. parts_of_triple triple pair.triple (triple_exact triple pair.triple (triple_told (triple_cmp triple pair.triple) h)))
+
+matches_itself : (triple : Triple) (dot : Dot) → matches (Some triple.s) (Some triple.p) (Some triple.o) (record { triple = triple; dot = dot }) ≡ true
+matches_itself triple dot = parts_of_triple triple triple refl
+
+-- ---- a dot's own path and tick
+
+range_wanted : (tables : TablesValue) (range : Range) (path : ℕ) (pair : Tagged) (numbers : Numbers) → Some path ≡ path_number tables.paths range.path → AreNumbersOf tables pair numbers
+    → is_within_range range pair.dot ≡ is_of_ticks path range.first range.last numbers
+range_wanted tables range path pair numbers number own =
+    let p = same_tests (pointwise nat_eq pair.dot.path range.path) (nat_eq numbers.path path)
+    (λ h. (nat_decides numbers.path path).1 (some_injective numbers.path path (sym own.path ∙ ap (path_number tables.paths) ((bytes_decides pair.dot.path range.path).0 h) ∙ sym number)))
+    (λ h. (bytes_decides pair.dot.path range.path).1 (same_path tables.paths pair.dot.path range.path path
+    (own.path ∙ ap (λ n. Some n) ((nat_decides numbers.path path).0 h)) (sym number))) in
+    let t = sym own.tick in
+    λ i. p i && (nat_le range.first (t i) && nat_le (t i) range.last)
+
+once_filter : (test : Numbers × Tagged → Bool) (pairs : List (Numbers × Tagged)) → StandOnce (map (λ (e : Numbers × Tagged). e.0) pairs) → StandOnce (map (λ (e : Numbers × Tagged). e.0) (filter test pairs))
+once_filter test [] once = tt
+once_filter test (e ∷ pairs) once = by (test e) (once_filter test pairs once.1)
   where
-    some_same : {a b : Tagged} → Some a ≡ Some b → b ≡ a
-    some_same e = cc
+    gone : ¬ Has (map (λ (e : Numbers × Tagged). e.0) (filter test pairs)) e.0
+    gone h =
+        let i = image_has (λ (e : Numbers × Tagged). e.0) (filter test pairs) e.0 h in
+        once.0 (subst (λ (w : Numbers). Has (map (λ (e : Numbers × Tagged). e.0) pairs) w) i.2 (has_image (λ (e : Numbers × Tagged). e.0) pairs i.0 ((has_filter test pairs i.0).0 i.1).0))
 
-pub has_from_first : (triple : Triple) (xs : List Tagged) (pair : Tagged) → IsFirstOf (is_before triple) xs (Some pair) → pair.triple ≡ triple → HasTriple xs triple
-has_from_first triple xs pair f e = (pair.dot, subst (λ (t : Triple). Has xs (record { triple = t; dot = pair.dot })) e (first_is_member triple xs pair f))
+    by : (b : Bool) → StandOnce (map (λ (e : Numbers × Tagged). e.0) (filter test pairs)) → StandOnce (map (λ (e : Numbers × Tagged). e.0) (cond b (e ∷ filter test pairs) (filter test pairs)))
+    by true rest = (gone, rest)
+    by false rest = rest
 
-pub first_some : (triple : Triple) (xs ys : List Tagged) (pair : Tagged) (b : Bool) → xs ≡ ys → IsAscending tagged_cmp xs → IsFirstOf (is_before triple) xs (Some pair)
-    → b ≡ eq_by_cmp triple_cmp pair.triple triple → IsTrue b ↔ HasTriple ys triple
-first_some triple xs ys pair b v a f e = (
-  λ h. subst (λ zs. HasTriple zs triple) v (has_from_first triple xs pair f (triple_exact pair.triple triple (tied (triple_cmp pair.triple triple) (sym e ∙ h)))),
-  λ h. let g = first_has triple xs (Some pair) a f (subst (λ zs. HasTriple zs triple) (sym v) h) in
-      e ∙ same pair g.0 g.1 g.2,
-)
-  where
-    same : (x y : Tagged) → Some x ≡ Some y → y.triple ≡ triple → eq_by_cmp triple_cmp x.triple triple ≡ true
-    same x y s t =
-        let q : x ≡ y = cc in
-        ap (λ w. is_eq (triple_cmp w triple)) (ap (λ (w : Tagged). w.triple) q ∙ t) ∙ ap is_eq (tied_itself triple_total triple)
+-- ---- what a scan finds
 
-pub first_none : (triple : Triple) (xs ys : List Tagged) → xs ≡ ys → IsAscending tagged_cmp xs → IsFirstOf (is_before triple) xs None → IsTrue false ↔ HasTriple ys triple
-first_none triple xs ys v a f = (
-  λ h. absurd (false≢true h),
-  λ h. let g = first_has triple xs None a f (subst (λ zs. HasTriple zs triple) (sym v) h) in absurd (never g.0 g.1),
-)
-  where
-    never : (x : Tagged) → None ≡ Some x → ⊥
-    never x e = cc
+module _ (tables : TablesValue) (pairs : List (Numbers × Tagged)) (are : HaveOwnNumbers tables pairs) (view : List Tagged) (view_is : in_order_of (pairs_of pairs) ≡ view) where
+  -- the graph's pairs
+  pub view_members : (pair : Tagged) → Has view pair ↔ Has (pairs_of pairs) pair
+  view_members pair = let m = order_members (pairs_of pairs) pair in (
+    λ h. m.0 (subst (λ (zs : List Tagged). Has zs pair) (sym view_is) h),
+    λ h. subst (λ (zs : List Tagged). Has zs pair) view_is (m.1 h),
+  )
+
+  pub view_ascends : IsAscending tagged_cmp view
+  view_ascends = subst (IsAscending tagged_cmp) view_is (order_ascends (pairs_of pairs))
+
+  -- a pair that the graph has, with its numbers
+  pub numbered_in : (pair : Tagged) → Has view pair → (numbers : Numbers) × Has pairs (numbers, pair) × AreNumbersOf tables pair numbers
+  numbered_in pair h =
+      let i = image_has (λ (e : Numbers × Tagged). e.1) pairs pair ((view_members pair).0 h) in
+      let n = are i.0 i.1 in
+      (i.0.0, subst (λ (w : Tagged). Has pairs (i.0.0, w)) i.2 i.1, subst (λ (w : Tagged). AreNumbersOf tables w i.0.0) i.2 n)
+
+  pub in_view : (numbers : Numbers) (pair : Tagged) → Has pairs (numbers, pair) → Has view pair
+  in_view numbers pair h = (view_members pair).1 (has_image (λ (e : Numbers × Tagged). e.1) pairs (numbers, pair) h)
+
+  pub finds_none : (s p : Option (List ℕ)) (o : Option Term) (found : List Tagged) → found ≡ [] → LackNumber tables s p o → FindsEach (matches s p o) view found
+  finds_none s p o found e lack = subst (FindsEach (matches s p o) view) (sym e) (record {
+    members = λ pair. (
+      λ h. absurd h,
+      λ h. let n = numbered_in pair h.0 in absurd (matches_none tables s p o pair n.0 lack n.2 h.1),
+    );
+    once = tt;
+  })
+
+  pub finds_all : (s p : Option (List ℕ)) (o : Option Term) (wanted : Places) (found : List Tagged) → ArePlaces tables s p o wanted → FindsEntries (has_places wanted) pairs found
+      → FindsEach (matches s p o) view found
+  finds_all s p o wanted found places f = subst (FindsEach (matches s p o) view) f.are (record {
+    members = λ pair. (
+      λ h.
+          let i = image_has (λ (e : Numbers × Tagged). e.1) f.entries pair h in
+          let m = (f.members i.0).0 i.1 in
+          let own = are i.0 m.0 in (
+            subst (λ (w : Tagged). Has view w) i.2 (in_view i.0.0 i.0.1 m.0),
+            subst (λ (w : Tagged). matches s p o w ≡ true) i.2 (matches_wanted tables s p o wanted i.0.1 i.0.0 places own ∙ m.1),
+          ),
+      λ h.
+          let n = numbered_in pair h.0 in
+          has_image (λ (e : Numbers × Tagged). e.1) f.entries (n.0, pair)
+          ((f.members (n.0, pair)).1 (n.1, sym (matches_wanted tables s p o wanted pair n.0 places n.2) ∙ h.1)),
+    );
+    once = once_by_numbers tables f.entries (λ e h. are e ((f.members e).0 h).0) f.once;
+  })
+
+  -- as many match as have the wanted numbers
+  pub as_many : (s p : Option (List ℕ)) (o : Option Term) (wanted : Places) → ArePlaces tables s p o wanted → StandOnce (map (λ (e : Numbers × Tagged). e.0) pairs)
+      → length (filter (λ (e : Numbers × Tagged). has_places wanted e.0) pairs) ≡ length (filter (matches s p o) view)
+  as_many s p o wanted places once =
+      counted pairs are ∙ sym (order_count (matches s p o) (pairs_of pairs) (once_by_numbers tables pairs are once)) ∙ ap (λ (zs : List Tagged). length (filter (matches s p o) zs)) view_is
+    where
+      counted : (list : List (Numbers × Tagged)) → HaveOwnNumbers tables list → length (filter (λ (e : Numbers × Tagged). has_places wanted e.0) list) ≡ length (filter (matches s p o) (pairs_of list))
+      counted [] own = refl
+      counted (e ∷ list) own =
+          by (has_places wanted e.0) (matches s p o e.1) (sym (matches_wanted tables s p o wanted e.1 e.0 places (own e (inl refl))))
+          (filter (λ (e : Numbers × Tagged). has_places wanted e.0) list) (filter (matches s p o) (pairs_of list)) (counted list (λ x h. own x (inr h)))
+        where
+          by : (a b : Bool) → a ≡ b → (xs : List (Numbers × Tagged)) (ys : List Tagged) → length xs ≡ length ys → length (cond a (e ∷ xs) xs) ≡ length (cond b (e.1 ∷ ys) ys)
+          by true true q xs ys l = ap (λ n. suc n) l
+          by true false q xs ys l = absurd (true≢false q)
+          by false true q xs ys l = absurd (false≢true q)
+          by false false q xs ys l = l
+
+  pub length_is : StandOnce (map (λ (e : Numbers × Tagged). e.0) pairs) → length pairs ≡ length view
+  length_is once = mapped pairs ∙ sym (order_length (pairs_of pairs) (once_by_numbers tables pairs are once)) ∙ ap length view_is
+    where
+      mapped : (list : List (Numbers × Tagged)) → length list ≡ length (pairs_of list)
+      mapped [] = refl
+      mapped (e ∷ list) = ap (λ n. suc n) (mapped list)
+
+  -- ---- a triple
+
+  pub triple_found : (triple : Triple) (s p o : ℕ) → iri_number tables triple.s ≡ Some s → iri_number tables triple.p ≡ Some p → term_number tables.terms triple.o ≡ Some o
+      → HasTerms pairs s p o ↔ HasTriple view triple
+  triple_found triple s p o es ep eo = (
+    λ h.
+        let own = are h.0 h.1 in
+        let a = same_iri tables.terms h.0.1.triple.s triple.s s (own.s ∙ ap (λ n. Some n) h.2) es in
+        let b = same_iri tables.terms h.0.1.triple.p triple.p p (own.p ∙ ap (λ n. Some n) h.3) ep in
+        let c = same_term tables.terms h.0.1.triple.o triple.o o (own.o ∙ ap (λ n. Some n) h.4) eo in
+        (h.0.1.dot, subst (λ (t : Triple). Has view (record { triple = t; dot = h.0.1.dot })) (λ i. record { s = a i; p = b i; o = c i }) (in_view h.0.0 h.0.1 h.1)),
+    λ h.
+        let pair : Tagged = record { triple = triple; dot = h.0 } in
+        let n = numbered_in pair h.1 in (
+          (n.0, pair),
+          n.1,
+          some_injective n.0.s s (sym n.2.s ∙ es),
+          some_injective n.0.p p (sym n.2.p ∙ ep),
+          some_injective n.0.o o (sym n.2.o ∙ eo),
+        ),
+  )
+
+  pub triple_lacks : (triple : Triple) → LackNumber tables (Some triple.s) (Some triple.p) (Some triple.o) → HasTriple view triple → ⊥
+  triple_lacks triple lack h =
+      let pair : Tagged = record { triple = triple; dot = h.0 } in
+      let n = numbered_in pair h.1 in
+      matches_none tables (Some triple.s) (Some triple.p) (Some triple.o) pair n.0 lack n.2 (matches_itself triple h.0)
+
+  -- ---- a range
+
+  pub range_found : (range : Range) (path : ℕ) (found : List Tagged) → Some path ≡ path_number tables.paths range.path → StandOnce (map (λ (e : Numbers × Tagged). e.0) pairs)
+      → found ≡ pairs_of (filter (λ (e : Numbers × Tagged). is_of_ticks path range.first range.last e.0) pairs) → FindsEach (λ pair. is_within_range range pair.dot) view found
+  range_found range path found number once e =
+      let test : Numbers × Tagged → Bool = λ (e : Numbers × Tagged). is_of_ticks path range.first range.last e.0 in
+      subst (FindsEach (λ pair. is_within_range range pair.dot) view) (sym e) (record {
+        members = λ pair. (
+          λ h.
+              let i = image_has (λ (e : Numbers × Tagged). e.1) (filter test pairs) pair h in
+              let m = (has_filter test pairs i.0).0 i.1 in (
+                subst (λ (w : Tagged). Has view w) i.2 (in_view i.0.0 i.0.1 m.0),
+                subst (λ (w : Tagged). is_within_range range w.dot ≡ true) i.2 (range_wanted tables range path i.0.1 i.0.0 number (are i.0 m.0) ∙ m.1),
+              ),
+          λ h.
+              let n = numbered_in pair h.0 in
+              has_image (λ (e : Numbers × Tagged). e.1) (filter test pairs) (n.0, pair)
+              ((has_filter test pairs (n.0, pair)).1 (n.1, sym (range_wanted tables range path pair n.0 number n.2) ∙ h.1)),
+        );
+        once = once_by_numbers tables (filter test pairs) (λ x h. are x ((has_filter test pairs x).0 h).0) (once_filter test pairs once);
+      })
+
+  pub range_lacks : (range : Range) (found : List Tagged) → found ≡ [] → None ≡ path_number tables.paths range.path → FindsEach (λ pair. is_within_range range pair.dot) view found
+  range_lacks range found e none = subst (FindsEach (λ pair. is_within_range range pair.dot) view) (sym e) (record {
+    members = λ pair. (
+      λ h. absurd h,
+      λ h.
+          let n = numbered_in pair h.0 in
+          let t = and_parts (pointwise nat_eq pair.dot.path range.path) (nat_le range.first pair.dot.tick && nat_le pair.dot.tick range.last) h.1 in
+          absurd (apart n.0.path (none ∙ ap (path_number tables.paths) (sym ((bytes_decides pair.dot.path range.path).0 t.0)) ∙ n.2.path)),
+    );
+    once = tt;
+  })
+    where
+      apart : (n : ℕ) → None ≡ Some n → ⊥
+      apart n e = cc
+
+  -- ---- one pair
+
+  pub has_numbered : (pair : Tagged) (numbers : Numbers) → AreNumbersOf tables pair numbers → HasNumbers pairs numbers ↔ Has view pair
+  has_numbered pair numbers own = (
+    λ h. subst (λ (w : Tagged). Has view w) (same_pair tables h.0 pair numbers numbers refl (are (numbers, h.0) h.1) own) (in_view numbers h.0 h.1),
+    λ h. let n = numbered_in pair h in (pair, subst (λ (w : Numbers). Has pairs (w, pair)) (same_numbers tables pair pair n.0 numbers refl n.2 own) n.1),
+  )
+
+  pub has_none : (pair : Tagged) → ¬ IsNumbered tables pair → Has view pair → ⊥
+  has_none pair none h = let n = numbered_in pair h in none (n.0, n.2)
+
+-- ---- what was found, in order
+
+module _ (view : List Tagged) where
+  -- what has all parts of a triple is of it
+  pub of_triple_found : (triple : Triple) (found : List Tagged) → FindsEach (matches (Some triple.s) (Some triple.p) (Some triple.o)) view found → FindsEach (is_of triple) view found
+  of_triple_found triple found f = record {
+    members = λ pair. (
+      λ h. let m = (f.members pair).0 h in (m.0, sym (matches_of triple pair) ∙ m.1),
+      λ h. (f.members pair).1 (h.0, matches_of triple pair ∙ h.1),
+    );
+    once = f.once;
+  }
+
+  -- it is just what passes, in the order of the graph
+  pub found_sorted : (test : Tagged → Bool) (found : List Tagged) → IsAscending tagged_cmp view → FindsEach test view found → in_order_of found ≡ filter test view
+  found_sorted test found a f =
+      sym (order_is found (filter test view) (ascending_filter tagged_cmp test view a) (λ pair.
+      let m = has_filter test view pair in
+      (λ h. (f.members pair).1 (m.0 h), λ h. m.1 ((f.members pair).0 h))))

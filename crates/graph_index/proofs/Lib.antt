@@ -1,7 +1,11 @@
 pub mod Changing
+pub mod Entries
 pub mod Finding
-pub mod Fronting
-pub mod Keys
+pub mod Fitting
+pub mod Moving
+pub mod Numbers
+pub mod Places
+pub mod Putting
 pub mod Ranging
-pub mod Scanning
 pub mod Sorting
+pub mod Together

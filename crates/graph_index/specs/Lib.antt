@@ -1,6 +1,5 @@
-pub mod DotOrder
-pub mod Fronts
+pub mod ByIris
 pub mod Graphs
-pub mod Indexing
 pub mod Matching
 pub mod SubjectLaws
+pub mod TermNumbers

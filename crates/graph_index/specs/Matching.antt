@@ -3,15 +3,15 @@
 use Rattle.std.specs.Prelude.{ℕ, List, [], ◌∷◌, ◌↔◌, Bool, true, ◌&&◌, IsTrue, nat_eq, nat_le, Option, None, Some, map}
 use Rattle.std.specs.Cmp.Lexicographic.{pointwise}
 use Rattle.std.specs.List.{filter}
-use Rattle.std.specs.Ordering.{eq_by_cmp, is_lt, is_le}
+use Rattle.std.specs.Ordering.{eq_by_cmp}
 use Rattle.rdf_terms.specs.declared.terms.Term.{Term}
 use Rattle.rdf_terms.specs.declared.terms.Triple.{Triple}
 use Rattle.rdf_terms.specs.Order.{term_cmp, triple_cmp}
 use Rattle.tree_clock.specs.declared.dots.Dot.{Dot}
 use Rattle.tree_clock.specs.declared.dots.Range.{Range}
-use Rattle.tree_clock.specs.Dot.{dot_cmp}
 use Rattle.tree_clock.specs.Lists.{Has}
 use Rattle.mld_ops.specs.declared.tagged.Tagged.{Tagged}
+pub use Rattle.pair_orders.specs.PairEntries.{StandTogether}
 
 -- an IRI, where one is given, is this one
 abbrev pub has_iri : Option (List ℕ) → List ℕ → Bool
@@ -44,14 +44,6 @@ is_of triple pair = eq_by_cmp triple_cmp triple pair.triple
 -- the dot is one of the range
 abbrev pub is_within_range : Range → Dot → Bool
 is_within_range range dot = pointwise nat_eq dot.path range.path && (nat_le range.first dot.tick && nat_le dot.tick range.last)
-
--- by dot, the pair is in front of those of the range
-abbrev pub is_before_range : Range → Tagged → Bool
-is_before_range range pair = is_lt (dot_cmp pair.dot (record { path = range.path; tick = range.first }))
-
--- by dot, the pair is not behind those of the range
-abbrev pub is_up_to_range : Range → Tagged → Bool
-is_up_to_range range pair = is_le (dot_cmp pair.dot (record { path = range.path; tick = range.last }))
 
 -- the dots of the pairs with the triple, in order
 abbrev pub dots_of : Triple → List Tagged → List Dot

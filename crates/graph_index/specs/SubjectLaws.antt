@@ -1,18 +1,16 @@
 -- Where the texts of two subjects differ, with their closing marks, they decide how triples compare, and so pairs.
--- The private orders of pairs name its laws.
-use Rattle.std.specs.Prelude.{◌≡◌, ℕ, List, Option}
+-- The private order of pairs names its law.
+use Rattle.std.specs.Prelude.{◌≡◌}
 use Rattle.std.proofs.Common.{sym}
 use Rattle.std.specs.Cmp.Lexicographic.{slice_cmp}
 use Rattle.std.specs.Ordering.{nat_cmp, ordering_then}
 use Rattle.std.specs.declared.cmp.Ordering.{Ordering}
 use Rattle.std.specs.declared.cmp.Ordering.TheVariants.{Less, Equal, Greater}
-use Rattle.rdf_terms.specs.declared.terms.Term.{Term}
 use Rattle.rdf_terms.specs.declared.terms.Triple.{Triple}
 use Rattle.rdf_terms.specs.Order.{iri_cmp, triple_cmp}
 use Rattle.mld_ops.specs.declared.tagged.Tagged.{Tagged}
 use Rattle.mld_ops.specs.Tagged.{tagged_cmp}
-use Rattle.chunked_list.specs.ClosedTexts.{closed_text}
-use Rattle.graph_index.specs.Fronts.{front_cmp}
+use Rattle.pair_orders.specs.chunked_list.ClosedTexts.{closed_text}
 
 -- the first of two orders, where it finds a difference
 first_tells : (o p r : Ordering) → ¬ (r ≡ Equal) → o ≡ r → ordering_then o p ≡ r
@@ -28,20 +26,3 @@ triples_by_subject a b r n e = first_tells (iri_cmp a.s b.s) _ r n e
 -- pairs by the subjects of their triples
 pub pairs_by_subject : (a b : Tagged) (r : Ordering) → ¬ (r ≡ Equal) → slice_cmp nat_cmp (closed_text a.triple.s) (closed_text b.triple.s) ≡ r → tagged_cmp a b ≡ r
 pairs_by_subject a b r n e = first_tells (triple_cmp a.triple b.triple) _ r n (triples_by_subject a.triple b.triple r n e)
-
--- so they decide how a triple stands to parts that are given from the front
-fronts_by_subject : (s : List ℕ) (p : Option (List ℕ)) (o : Option Term) (triple : Triple) (r : Ordering) → ¬ (r ≡ Equal)
-    → slice_cmp nat_cmp (closed_text triple.s) (closed_text s) ≡ r → front_cmp s p o triple ≡ r
-fronts_by_subject s p o triple r n e = first_tells (iri_cmp triple.s s) _ r n e
-
-pub lesser_front : (s : List ℕ) (p : Option (List ℕ)) (o : Option Term) (triple : Triple) → slice_cmp nat_cmp (closed_text triple.s) (closed_text s) ≡ Less → front_cmp s p o triple ≡ Less
-lesser_front s p o triple e = fronts_by_subject s p o triple Less differs e
-  where
-    differs : ¬ (Less ≡ Equal)
-    differs q = cc
-
-pub greater_front : (s : List ℕ) (p : Option (List ℕ)) (o : Option Term) (triple : Triple) → slice_cmp nat_cmp (closed_text triple.s) (closed_text s) ≡ Greater → front_cmp s p o triple ≡ Greater
-greater_front s p o triple e = fronts_by_subject s p o triple Greater differs e
-  where
-    differs : ¬ (Greater ≡ Equal)
-    differs q = cc

@@ -1,29 +1,12 @@
 //! Changes of ascending lists of pairs.
 ghost use Rattle.std.specs.Prelude.{◌≡◌, ◌≤◌, ◌⊎◌, ◌↔◌, vec_len};
-ghost use Rattle.graph_index.specs.Indexing.{IsGraph};
-ghost use Rattle.mld_ops.specs.Applies.{Applies};
 ghost use Rattle.mld_ops.specs.Tagged.{tagged_cmp};
 ghost use Rattle.mld_ops.specs.declared.tagged.Tagged.{Tagged};
 ghost use Rattle.tree_clock.specs.Lists.{Has, IsAscending};
 
-use crate::dot_index::{DotIndex, follow};
 use crate::pair_order::PairOrder;
-use chunked_list::{Chunked, Keyed, Order};
-use mld_ops::{Cut, Tagged};
-
-/// Loses the pairs that a cut drops, and then gains those that it adds. It takes no memory.
-pub(crate) fn apply_to(pairs: &mut Chunked<Tagged>, index: &mut DotIndex, cut: Cut)
-    requires room { vec_len cut.adds ≤ pairs.old.room }
-    requires graph { IsGraph pairs.old.elements index.old }
-    ensures applies { Applies cut.drops.items cut.adds.items pairs.old.elements pairs.new.elements }
-    ensures graph { IsGraph pairs.new.elements index.new }
-{
-    let Cut { drops, adds } = cut;
-    remove_all(pairs, &drops);
-    follow(index, drops, &adds);
-    let mut rest = adds;
-    add_all(&PairOrder, pairs, &mut rest);
-}
+use mld_ops::Tagged;
+use pair_orders::chunked_list::{Chunked, Keyed, Order};
 
 /// Takes out those of the pairs that are there.
 pub(crate) fn remove_all(pairs: &mut Chunked<Tagged>, drops: &[Tagged])

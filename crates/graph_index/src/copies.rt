@@ -1,9 +1,9 @@
 //! Copies of pairs.
 ghost use Rattle.std.specs.Prelude.{◌≡◌, ◌++◌, map, IfOk, OnOk};
-ghost use Rattle.chunked_list.specs.Joined.{joined_chunks};
+ghost use Rattle.pair_orders.specs.chunked_list.Joined.{joined_chunks};
 
-use chunked_list::Chunk;
 use mld_ops::Tagged;
+use pair_orders::chunked_list::Chunk;
 use std::alloc::{AllocError, Global};
 use tree_clock::Dot;
 
@@ -27,31 +27,6 @@ fn add_copies(list: &mut Vec<Tagged>, pairs: &[Tagged]) -> Result<(), AllocError
 {
     for pair in pairs {
         list.push(pair.share()?)?;
-    }
-    Ok(())
-}
-
-/// The pairs in chunks, of which there are so many, where they stand.
-pub(crate) fn lend_chunks<'a>(
-    alloc: Global,
-    chunks: &'a [Chunk<Tagged>],
-    count: usize,
-) -> Result<Vec<&'a Tagged>, AllocError>
-    ensures { IfOk result (λ list. map (λ x. x.now) list.items ≡ joined_chunks chunks.now) }
-{
-    let mut list = Vec::with_capacity(alloc, count)?;
-    for chunk in chunks {
-        add_lent(&mut list, chunk.as_slice())?;
-    }
-    Ok(list)
-}
-
-// Adds pairs where they stand.
-fn add_lent<'a>(list: &mut Vec<&'a Tagged>, pairs: &'a [Tagged]) -> Result<(), AllocError>
-    ensures { OnOk result (map (λ x. x.now) list.new.items ≡ map (λ x. x.now) list.old.items ++ pairs.now) }
-{
-    for pair in pairs {
-        list.push(pair)?;
     }
     Ok(())
 }

@@ -1,19 +1,18 @@
-//! The pairs of a clone: found, changed and matched by their parts.
+//! The pairs of a clone by the numbers of their terms: found, changed and matched by their parts.
 #![tactic(auto)]
 
-mod by_dot;
+mod by_iri;
 mod changes;
 mod copies;
-mod dot_index;
-mod fronts;
+mod found;
 mod graphs;
 mod matching;
+mod numbered;
 mod pair_order;
 mod pair_sets;
 mod ranges;
-mod scans;
-mod steps;
+mod tables;
 
 pub use graphs::Graph;
+pub use pair_orders::Steps;
 pub use pair_sets::PairSet;
-pub use steps::Steps;

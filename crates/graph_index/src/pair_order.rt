@@ -1,6 +1,6 @@
 //! The order of pairs.
-use chunked_list::Order;
 use mld_ops::Tagged;
+use pair_orders::chunked_list::Order;
 use std::cmp::Ordering;
 
 /// By triple, then by dot.

@@ -6,7 +6,7 @@ use Rattle.mld_ops.specs.declared.tagged.Tagged.{Tagged}
 use Rattle.tree_clock.specs.Lists.{Has}
 use Rattle.pair_orders.specs.Keys.{slotted_key, key_numbers, slot_at, shape_cmp, shape_total}
 use Rattle.pair_orders.specs.PairEntries.{StandOnce, HasNumbers, HasTerms, PairsValue, entries_of}
-use Rattle.pair_orders.specs.KeptPairs.{AreSlots, PutsAt, AreLists, AreHeld, IsPairs, pairs_value}
+use Rattle.pair_orders.specs.KeptPairs.{AreSlots, PutsAt, AreLists, AreHeld, IsPairs, pairs_value, dots_in}
 use Rattle.pair_orders.specs.declared.keys.Key.{Key}
 use Rattle.pair_orders.specs.declared.keys.Numbers.{Numbers}
 use Rattle.pair_orders.specs.declared.keys.Shape.TheVariants.{Dot}
@@ -15,24 +15,24 @@ use Rattle.pair_orders.specs.declared.slots.Slots.{Slots}
 use Rattle.pair_orders.proofs.Once.{once_ascending, length_more}
 use Rattle.pair_orders.proofs.Holding.{has_entry, has_numbers, some_of, held_kept, once_entries, inserted_held, inserted_entries, removed_held}
 
-pub once_by_dot : (lists : Lists) → AreLists lists → StandOnce lists.dot.elements
-once_by_dot lists are = once_ascending (shape_cmp Dot) (shape_total Dot) lists.dot.elements are.dot
+pub once_by_dot : (lists : Lists) → AreLists lists → StandOnce (dots_in lists)
+once_by_dot lists are = once_ascending (shape_cmp Dot) (shape_total Dot) (dots_in lists) are.dot
 
 -- no two pairs have the same numbers
 pub numbers_once : (slots : Slots) (lists : Lists) (pairs : PairsValue) → pairs_value slots lists ≡ pairs → IsPairs slots lists → StandOnce (map (λ entry. entry.0) pairs.pairs)
 numbers_once slots lists pairs e is =
-    subst (λ (v : PairsValue). StandOnce (map (λ entry. entry.0) v.pairs)) e (once_entries slots.pairs.items lists.dot.elements is.held (once_by_dot lists is.lists_are))
+    subst (λ (v : PairsValue). StandOnce (map (λ entry. entry.0) v.pairs)) e (once_entries slots.pairs.items (dots_in lists) is.held (once_by_dot lists is.lists_are))
 
 -- room is made
 pub prepared_is : (slots new : Slots) (lists wider : Lists) → IsPairs slots lists → AreSlots new → ((slot : ℕ) → slot_at new.pairs.items slot ≡ slot_at slots.pairs.items slot)
-    → vec_len new.pairs + vec_len slots.free ≡ vec_len slots.pairs + vec_len new.free → vec_len new.pairs ≤ vec_capacity new.free → AreLists wider → wider.dot.elements ≡ lists.dot.elements → IsPairs new wider
+    → vec_len new.pairs + vec_len slots.free ≡ vec_len slots.pairs + vec_len new.free → vec_len new.pairs ≤ vec_capacity new.free → AreLists wider → (dots_in wider) ≡ (dots_in lists) → IsPairs new wider
 prepared_is slots new lists wider is are same made room lists_are e =
     let none_lost = is.none_lost in
     let l = ap (λ (keys : List Key). length keys) e in
     record {
       slots_are = are;
       lists_are = lists_are;
-      held = subst (AreHeld new.pairs.items) (sym e) (held_kept slots.pairs.items new.pairs.items same lists.dot.elements is.held);
+      held = subst (AreHeld new.pairs.items) (sym e) (held_kept slots.pairs.items new.pairs.items same (dots_in lists) is.held);
       none_lost = omega arith;
       free_room = room;
     }
@@ -40,16 +40,16 @@ prepared_is slots new lists wider is are same made room lists_are e =
 -- a pair comes
 pub put_is : (slots new : Slots) (lists more : Lists) (numbers : Numbers) (pair : Tagged) (slot : ℕ) (key : Key) → IsPairs slots lists → AreSlots new → slot_at slots.pairs.items slot ≡ None
     → PutsAt slots.pairs.items new.pairs.items slot (Some pair) → vec_len new.pairs ≡ vec_len slots.pairs → vec_len slots.free ≡ vec_len new.free + 1 → vec_capacity slots.free ≤ vec_capacity new.free
-    → ((other : ℕ) → ¬ Has lists.dot.elements (slotted_key numbers other)) → AreLists more → ((other : Key) → Has more.dot.elements other ↔ (Has lists.dot.elements other ⊎ (other ≡ key))) → key ≡ slotted_key numbers slot → IsPairs new more
+    → ((other : ℕ) → ¬ Has (dots_in lists) (slotted_key numbers other)) → AreLists more → ((other : Key) → Has (dots_in more) other ↔ (Has (dots_in lists) other ⊎ (other ≡ key))) → key ≡ slotted_key numbers slot → IsPairs new more
 put_is slots new lists more numbers pair slot key is are empty put pairs len capacity none lists_are members e =
-    let ms = subst (λ (k : Key). (other : Key) → Has more.dot.elements other ↔ (Has lists.dot.elements other ⊎ (other ≡ k))) e members in
-    let l = length_more lists.dot.elements more.dot.elements (slotted_key numbers slot) (once_by_dot lists is.lists_are) (once_by_dot more lists_are) (none slot) ms in
+    let ms = subst (λ (k : Key). (other : Key) → Has (dots_in more) other ↔ (Has (dots_in lists) other ⊎ (other ≡ k))) e members in
+    let l = length_more (dots_in lists) (dots_in more) (slotted_key numbers slot) (once_by_dot lists is.lists_are) (once_by_dot more lists_are) (none slot) ms in
     let none_lost = is.none_lost in
     let room = is.free_room in
     record {
       slots_are = are;
       lists_are = lists_are;
-      held = inserted_held slots.pairs.items new.pairs.items lists.dot.elements more.dot.elements numbers pair slot is.held put empty none ms;
+      held = inserted_held slots.pairs.items new.pairs.items (dots_in lists) (dots_in more) numbers pair slot is.held put empty none ms;
       none_lost = omega arith;
       free_room = omega arith;
     }
@@ -62,20 +62,20 @@ put_entries slots new keys more numbers pair slot key held empty put none member
 
 -- a pair goes
 pub taken_is : (slots new : Slots) (lists less : Lists) (key : Key) → IsPairs slots lists → AreSlots new → PutsAt slots.pairs.items new.pairs.items key.slot None → vec_len new.pairs ≡ vec_len slots.pairs
-    → vec_len new.free ≡ vec_len slots.free + 1 → vec_capacity slots.free ≤ vec_capacity new.free → Has lists.dot.elements key → AreLists less
-    → ((other : Key) → Has less.dot.elements other ↔ (Has lists.dot.elements other × ¬ (other ≡ key))) → IsPairs new less
+    → vec_len new.free ≡ vec_len slots.free + 1 → vec_capacity slots.free ≤ vec_capacity new.free → Has (dots_in lists) key → AreLists less
+    → ((other : Key) → Has (dots_in less) other ↔ (Has (dots_in lists) other × ¬ (other ≡ key))) → IsPairs new less
 taken_is slots new lists less key is are put pairs len capacity member lists_are members =
-    let l = length_more less.dot.elements lists.dot.elements key (once_by_dot less lists_are) (once_by_dot lists is.lists_are) (λ h. ((members key).0 h).1 refl)
+    let l = length_more (dots_in less) (dots_in lists) key (once_by_dot less lists_are) (once_by_dot lists is.lists_are) (λ h. ((members key).0 h).1 refl)
     (λ other. (
       λ h. elim (same_or_not other.slot key.slot) [ inl e ↦ inr (is.held.slots_apart other key h member e) | inr n ↦ inl ((members other).1 (h, λ e. n (ap (λ k. k.slot) e))) ],
-      λ h. elim h [ inl k ↦ ((members other).0 k).0 | inr e ↦ subst (Has lists.dot.elements) (sym e) member ],
+      λ h. elim h [ inl k ↦ ((members other).0 k).0 | inr e ↦ subst (Has (dots_in lists)) (sym e) member ],
     )) in
     let none_lost = is.none_lost in
     let room = is.free_room in
     record {
       slots_are = are;
       lists_are = lists_are;
-      held = removed_held slots.pairs.items new.pairs.items lists.dot.elements less.dot.elements key is.held put member members;
+      held = removed_held slots.pairs.items new.pairs.items (dots_in lists) (dots_in less) key is.held put member members;
       none_lost = omega arith;
       free_room = omega arith;
     }
@@ -87,8 +87,8 @@ taken_is slots new lists less key is are put pairs len capacity member lists_are
     ]
 
 -- where a key is, not all slots are free
-pub some_used : (slots : Slots) (lists : Lists) (key : Key) → IsPairs slots lists → Has lists.dot.elements key → vec_len slots.free < vec_capacity slots.free
-some_used slots lists key is member = let p = positive lists.dot.elements member in let none_lost = is.none_lost in let room = is.free_room in omega arith
+pub some_used : (slots : Slots) (lists : Lists) (key : Key) → IsPairs slots lists → Has (dots_in lists) key → vec_len slots.free < vec_capacity slots.free
+some_used slots lists key is member = let p = positive (dots_in lists) member in let none_lost = is.none_lost in let room = is.free_room in omega arith
   where
     positive : (keys : List Key) → Has keys key → 0 < length keys
     positive [] h = absurd h
@@ -126,17 +126,17 @@ pub found_tells : (slots : List (Option Tagged)) (keys : List Key) (numbers : Nu
 found_tells slots keys numbers None answer held some none e = (λ h. absurd (false≢true (sym e ∙ h)), λ h. let s = (has_numbers slots keys numbers held).0 h in absurd (none s.0 s.1))
 found_tells slots keys numbers (Some slot) answer held some none e = (λ h. (has_numbers slots keys numbers held).1 (slot, some), λ h. e)
 
-pub terms_tell : (slots : List (Option Tagged)) (keys others : List Key) (s p o : ℕ) (answer : Bool) → AreHeld slots keys → ((key : Key) → Has others key ↔ Has keys key)
-    → (IsTrue answer ↔ ((key : Key) × Has others key × (key.s ≡ s) × (key.p ≡ p) × (key.o ≡ o))) → IsTrue answer ↔ HasTerms (entries_of slots keys) s p o
-terms_tell slots keys others s p o answer held same tells = (
+pub terms_tell : (slots : List (Option Tagged)) (keys : List Key) (s p o : ℕ) (answer : Bool) → AreHeld slots keys
+    → (IsTrue answer ↔ ((key : Key) × Has keys key × (key.s ≡ s) × (key.p ≡ p) × (key.o ≡ o))) → IsTrue answer ↔ HasTerms (entries_of slots keys) s p o
+terms_tell slots keys s p o answer held tells = (
   λ h.
       let k = tells.0 h in
-      let c = some_of (slot_at slots k.0.slot) (held.occupied k.0 ((same k.0).0 k.1)) in
-      ((key_numbers k.0, c.0), (has_entry slots keys (key_numbers k.0, c.0)).1 (record { key = k.0; member = (same k.0).0 k.1; pair_is = c.1; numbers_are = refl }), k.2, k.3, k.4),
+      let c = some_of (slot_at slots k.0.slot) (held.occupied k.0 k.1) in
+      ((key_numbers k.0, c.0), (has_entry slots keys (key_numbers k.0, c.0)).1 (record { key = k.0; member = k.1; pair_is = c.1; numbers_are = refl }), k.2, k.3, k.4),
   λ h.
       let t = (has_entry slots keys h.0).0 h.1 in
       let n = t.numbers_are in
-      tells.1 (t.key, (same t.key).1 t.member, ap (λ n. n.s) n ∙ h.2, ap (λ n. n.p) n ∙ h.3, ap (λ n. n.o) n ∙ h.4),
+      tells.1 (t.key, t.member, ap (λ n. n.s) n ∙ h.2, ap (λ n. n.p) n ∙ h.3, ap (λ n. n.o) n ∙ h.4),
 )
 
 pub found_there : (keys : List Key) (numbers : Numbers) (found : Option ℕ) → IfSome found (λ slot. Has keys (slotted_key numbers slot)) → true ≡ is_some found → (slot : ℕ) × Has keys (slotted_key numbers slot)

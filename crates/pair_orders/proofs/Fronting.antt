@@ -65,7 +65,7 @@ module _ {X K : Type 0} (Q : X → X → Ordering) (R : K → K → Ordering) (t
 -- ---- fronts
 
 -- of two lists in order the fronts are in order, or the same
-front_ascends : (n : ℕ) (xs ys : List ℕ) → slice_cmp nat_cmp xs ys ≡ Less → (slice_cmp nat_cmp (take n xs) (take n ys) ≡ Less) ⊎ (slice_cmp nat_cmp (take n xs) (take n ys) ≡ Equal)
+pub front_ascends : (n : ℕ) (xs ys : List ℕ) → slice_cmp nat_cmp xs ys ≡ Less → (slice_cmp nat_cmp (take n xs) (take n ys) ≡ Less) ⊎ (slice_cmp nat_cmp (take n xs) (take n ys) ≡ Equal)
 front_ascends zero xs ys l = inr refl
 front_ascends (suc n) [] [] l = cc
 front_ascends (suc n) [] (y ∷ ys) l = inl refl

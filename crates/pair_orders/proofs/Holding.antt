@@ -142,7 +142,7 @@ module _ (slots : List (Option Tagged)) where
       let m = length_entries keys (λ other h. occupied other (inr h)) in
       l ∙ ap (λ n. n + 1) m ∙ omega arith
 
-has_map : {X Y : Type 0} (f : X → Y) (xs : List X) (y : Y) → Has (map f xs) y → (x : X) × Has xs x × (f x ≡ y)
+pub has_map : {X Y : Type 0} (f : X → Y) (xs : List X) (y : Y) → Has (map f xs) y → (x : X) × Has xs x × (f x ≡ y)
 has_map f [] y h = absurd h
 has_map f (x ∷ xs) y (inl e) = (x, inl refl, e)
 has_map f (x ∷ xs) y (inr h) = let r = has_map f xs y h in (r.0, inr r.1, r.2)

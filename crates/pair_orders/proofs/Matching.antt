@@ -1,11 +1,11 @@
 -- What is found in an order, as it is told of the pairs.
-use Rattle.std.proofs.Common.{◌≡◌, List, [], ◌∷◌, ◌↔◌, Bool, cond, IsTrue, length, map, refl, sym, subst, ap, inl, inr}
+use Rattle.std.proofs.Common.{◌≡◌, List, [], ◌∷◌, ◌↔◌, Bool, cond, IsTrue, length, map, sym, subst, ap, inl, inr}
 use Rattle.std.proofs.lemmas.Bool.{cases_Bool}
 use Rattle.std.specs.List.{filter}
 use Rattle.mld_ops.specs.declared.tagged.Tagged.{Tagged}
 use Rattle.mld_ops.proofs.AscendingLaws.{has_filter}
 use Rattle.tree_clock.specs.Lists.{Has}
-use Rattle.pair_orders.specs.PairEntries.{StandOnce, FindsEntries}
+use Rattle.pair_orders.specs.PairEntries.{StandOnce, StandTogether, FindsEntries, numbers_of_terms}
 use Rattle.pair_orders.specs.declared.keys.Numbers.{Numbers}
 use Rattle.pair_orders.proofs.Once.{length_same}
 
@@ -41,12 +41,14 @@ module _ (test : Numbers → Bool) (pairs entries : List (Numbers × Tagged)) (s
       let f = has_filter (λ entry. test entry.0) entries entry in
       (λ h. let m = f.0 h in ((same entry).0 m.0, m.1), λ h. f.1 ((same entry).1 h.0, h.1))
 
-  pub finds_entries : (found : List Tagged) → found ≡ map (λ entry. entry.1) (filter (λ entry. test entry.0) entries) → FindsEntries test pairs found
-  finds_entries found e = record {
+  pub finds_entries : StandTogether (λ entry. numbers_of_terms entry.0) (filter (λ entry. test entry.0) entries) → (found : List Tagged)
+      → found ≡ map (λ entry. entry.1) (filter (λ entry. test entry.0) entries) → FindsEntries test pairs found
+  finds_entries together found e = record {
     entries = filter (λ entry. test entry.0) entries;
     are = sym e;
     members = same_kept;
     once = once_kept (λ entry. entry.0) (λ entry. test entry.0) entries once;
+    together = together;
   }
 
   -- as many match

@@ -1,5 +1,7 @@
 -- What numbered pairs keep: slots, and keys in four orders. The invariant of `NumberedPairs`, and the private calls, cite it.
-use Rattle.std.specs.Prelude.{◌≡◌, ℕ, ◌+◌, ◌<◌, ◌≤◌, List, ◌↔◌, Option, None, IsSome, length, min, vec_len, vec_capacity}
+use Rattle.std.specs.Prelude.{◌≡◌, ℕ, ◌+◌, ◌<◌, ◌≤◌, List, [], ◌↔◌, Option, None, IsSome, length, min, vec_len, vec_capacity}
+use Rattle.std.specs.List.{slice_index_or}
+use Rattle.chunked_list.specs.Room.{ChunkedValue}
 use Rattle.mld_ops.specs.declared.tagged.Tagged.{Tagged}
 use Rattle.tree_clock.specs.Lists.{Has, IsAscending}
 use Rattle.pair_orders.specs.Keys.{shape_cmp, key_numbers, slot_at}
@@ -32,16 +34,29 @@ pub record AreKeysOf (shape : Shape) (keys dots : List Key) : Type 0 where
   pub ascending : IsAscending (shape_cmp shape) keys
   pub same : (key : Key) → Has keys key ↔ Has dots key
 
--- so they do in each list
+-- no keys, and no room
+abbrev pub no_list : ChunkedValue Key
+no_list = record { elements = []; room = 0 }
+
+-- one of the lists, by its place
+abbrev pub list_at : Lists → ℕ → ChunkedValue Key
+list_at lists place = slice_index_or lists.keys place no_list
+
+-- the keys by dot
+abbrev pub dots_in : Lists → List Key
+dots_in lists = (list_at lists 0).elements
+
+-- there are four lists, and each has those keys in its order
 pub record AreLists (lists : Lists) : Type 0 where
-  pub dot : IsAscending (shape_cmp Dot) lists.dot.elements
-  pub subject : AreKeysOf Subject lists.subject.elements lists.dot.elements
-  pub predicate : AreKeysOf Predicate lists.predicate.elements lists.dot.elements
-  pub object : AreKeysOf Object lists.object.elements lists.dot.elements
+  pub four : length lists.keys ≡ 4
+  pub dot : IsAscending (shape_cmp Dot) (dots_in lists)
+  pub subject : AreKeysOf Subject (list_at lists 1).elements (dots_in lists)
+  pub predicate : AreKeysOf Predicate (list_at lists 2).elements (dots_in lists)
+  pub object : AreKeysOf Object (list_at lists 3).elements (dots_in lists)
 
 -- how many keys can come into each without memory
 abbrev pub lists_room : Lists → ℕ
-lists_room lists = min (min lists.dot.room lists.subject.room) (min lists.predicate.room lists.object.room)
+lists_room lists = min (min (list_at lists 0).room (list_at lists 1).room) (min (list_at lists 2).room (list_at lists 3).room)
 
 -- the keys have pairs in slots, no two in one slot, and no two have the same numbers
 pub record AreHeld (slots : List (Option Tagged)) (keys : List Key) : Type 0 where
@@ -49,14 +64,22 @@ pub record AreHeld (slots : List (Option Tagged)) (keys : List Key) : Type 0 whe
   pub slots_apart : (a b : Key) → Has keys a → Has keys b → a.slot ≡ b.slot → a ≡ b
   pub numbers_apart : (a b : Key) → Has keys a → Has keys b → key_numbers a ≡ key_numbers b → a ≡ b
 
+-- so many keys have pairs in slots, each once, of which none is lost
+pub record AreFilled (slots : Slots) (keys : List Key) : Type 0 where
+  pub slots_are : AreSlots slots
+  pub held : AreHeld slots.pairs.items keys
+  pub once : StandOnce keys
+  pub none_lost : length keys + vec_len slots.free ≡ vec_len slots.pairs
+  pub free_room : vec_len slots.pairs ≤ vec_capacity slots.free
+
 -- what numbered pairs keep: each slot is a key's or a free one, and each can be let go without memory
 pub record IsPairs (slots : Slots) (lists : Lists) : Type 0 where
   pub slots_are : AreSlots slots
   pub lists_are : AreLists lists
-  pub held : AreHeld slots.pairs.items lists.dot.elements
-  pub none_lost : length lists.dot.elements + vec_len slots.free ≡ vec_len slots.pairs
+  pub held : AreHeld slots.pairs.items (dots_in lists)
+  pub none_lost : length (dots_in lists) + vec_len slots.free ≡ vec_len slots.pairs
   pub free_room : vec_len slots.pairs ≤ vec_capacity slots.free
 
 -- their value
 abbrev pub pairs_value : Slots → Lists → PairsValue
-pairs_value slots lists = record { pairs = entries_of slots.pairs.items lists.dot.elements; room = min (vec_len slots.free) (lists_room lists) }
+pairs_value slots lists = record { pairs = entries_of slots.pairs.items (dots_in lists); room = min (vec_len slots.free) (lists_room lists) }

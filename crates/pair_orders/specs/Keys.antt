@@ -42,6 +42,10 @@ ranks Object key = key.o ∷ key.s ∷ key.p ∷ key.path ∷ key.tick ∷ key.s
 abbrev pub shape_cmp : Shape → Key → Key → Ordering
 shape_cmp shape a b = slice_cmp nat_cmp (ranks shape a) (ranks shape b)
 
+-- three numbers against three, from the first
+abbrev pub three_cmp : ℕ × ℕ × ℕ → ℕ × ℕ × ℕ → Ordering
+three_cmp a b = ordering_then (nat_cmp a.0 b.0) (ordering_then (nat_cmp a.1 b.1) (nat_cmp a.2 b.2))
+
 -- each order is total
 pub shape_total : (shape : Shape) → IsTotalOrder (shape_cmp shape)
 shape_total shape = on_total (ranks shape) nat_list_cmp_total
@@ -90,6 +94,13 @@ LeadsIn Dot wanted = (wanted.s ≡ None) × (wanted.p ≡ None) × (wanted.o ≡
 LeadsIn Subject wanted = AreLeading wanted.s wanted.p wanted.o
 LeadsIn Predicate wanted = AreLeading wanted.p wanted.o wanted.s
 LeadsIn Object wanted = AreLeading wanted.o wanted.s wanted.p
+
+-- the numbers of terms lead in that order
+abbrev pub LeadsByTerms : Shape → Type 0
+LeadsByTerms Dot = ⊥
+LeadsByTerms Subject = Unit {0}
+LeadsByTerms Predicate = Unit {0}
+LeadsByTerms Object = Unit {0}
 
 -- a wanted number against that of a key, then the next ones; where none is wanted all are alike
 abbrev pub wanted_then : Option ℕ → ℕ → Ordering → Ordering

@@ -1,3 +1,4 @@
+pub use Rattle.chunked_list.specs as chunked_list
 pub mod KeyFronts
 pub mod Keys
 pub mod Orders

@@ -1,5 +1,5 @@
 -- What contracts see of numbered pairs, and what is found of them. The calls of `NumberedPairs` cite it.
-use Rattle.std.specs.Prelude.{◌≡◌, ℕ, List, [], ◌∷◌, ◌↔◌, Bool, ◌&&◌, IsTrue, nat_eq, nat_le, map, Option, filter_map}
+use Rattle.std.specs.Prelude.{◌≡◌, ℕ, List, [], ◌∷◌, ◌↔◌, ◌⊎◌, Bool, ◌&&◌, IsTrue, nat_eq, nat_le, map, Option, filter_map}
 use Rattle.std.specs.Option.{option_map}
 use Rattle.mld_ops.specs.declared.tagged.Tagged.{Tagged}
 use Rattle.tree_clock.specs.Lists.{Has}
@@ -37,9 +37,24 @@ abbrev pub StandOnce : {X : Type 0} → List X → Type 0
 StandOnce [] = Unit {0}
 StandOnce (x ∷ xs) = (¬ Has xs x) × StandOnce xs
 
--- those of the pairs whose numbers pass the test are found, each once, in whatever order
+-- the first of a list has the same image as this value
+abbrev pub BeginsAlike : {X Y : Type 0} → (X → Y) → X → List X → Type 0
+BeginsAlike f x [] = ⊥
+BeginsAlike f x (y ∷ ys) = f y ≡ f x
+
+-- values of one image stand together: where the next one has another, so have all behind it
+abbrev pub StandTogether : {X Y : Type 0} → (X → Y) → List X → Type 0
+StandTogether f [] = Unit {0}
+StandTogether {X} f (x ∷ xs) = (BeginsAlike f x xs ⊎ ((other : X) → Has xs other → ¬ (f other ≡ f x))) × StandTogether f xs
+
+-- the numbers of a pair's terms
+abbrev pub numbers_of_terms : Numbers → ℕ × ℕ × ℕ
+numbers_of_terms numbers = (numbers.s, numbers.p, numbers.o)
+
+-- those of the pairs whose numbers pass the test are found, each once, those of one triple together
 pub record FindsEntries (test : Numbers → Bool) (pairs : List (Numbers × Tagged)) (found : List Tagged) : Type 0 where
   pub entries : List (Numbers × Tagged)
   pub are : map (λ entry. entry.1) entries ≡ found
   pub members : (entry : Numbers × Tagged) → Has entries entry ↔ (Has pairs entry × IsTrue (test entry.0))
   pub once : StandOnce (map (λ entry. entry.0) entries)
+  pub together : StandTogether (λ entry. numbers_of_terms entry.0) entries

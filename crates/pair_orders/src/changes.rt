@@ -4,7 +4,7 @@ ghost use Rattle.mld_ops.specs.declared.tagged.Tagged.{Tagged};
 ghost use Rattle.tree_clock.specs.Lists.{Has};
 ghost use Rattle.pair_orders.specs.Keys.{slotted_key};
 ghost use Rattle.pair_orders.specs.PairEntries.{HasNumbers};
-ghost use Rattle.pair_orders.specs.KeptPairs.{IsPairs, pairs_value};
+ghost use Rattle.pair_orders.specs.KeptPairs.{IsPairs, pairs_value, dots_in};
 ghost use Rattle.pair_orders.specs.declared.keys.Numbers.{Numbers};
 
 use crate::finds::find_slot;
@@ -40,7 +40,7 @@ pub(crate) fn insert_in(slots: &mut Slots, lists: &mut Lists, numbers: Numbers, 
         ↔ (Has (pairs_value slots.old lists.old).pairs other ⊎ ((other ≡ (numbers, pair)) × ¬ HasNumbers (pairs_value slots.old lists.old).pairs numbers)) }
     ensures room { (pairs_value slots.old lists.old).room ≤ (pairs_value slots.new lists.new).room + 1 }
 {
-    if find_slot(&lists.dot, &numbers).is_some() {
+    if find_slot(lists, &numbers).is_some() {
         return;
     }
     put_new(slots, lists, numbers, pair);
@@ -50,7 +50,7 @@ pub(crate) fn insert_in(slots: &mut Slots, lists: &mut Lists, numbers: Numbers, 
 fn put_new(slots: &mut Slots, lists: &mut Lists, numbers: Numbers, pair: Tagged)
     requires is { IsPairs slots.old lists.old }
     requires room { 0 < (pairs_value slots.old lists.old).room }
-    requires none { (slot : ℕ) → ¬ Has lists.old.dot.elements (slotted_key numbers slot) }
+    requires none { (slot : ℕ) → ¬ Has (dots_in lists.old) (slotted_key numbers slot) }
     ensures is { IsPairs slots.new lists.new }
     ensures members { (other : Numbers × Tagged) → Has (pairs_value slots.new lists.new).pairs other
         ↔ (Has (pairs_value slots.old lists.old).pairs other ⊎ (other ≡ (numbers, pair))) }
@@ -68,7 +68,7 @@ pub(crate) fn remove_in(slots: &mut Slots, lists: &mut Lists, numbers: &Numbers)
         ↔ (Has (pairs_value slots.old lists.old).pairs other × ¬ (other.0 ≡ numbers.now)) }
     ensures room { (pairs_value slots.old lists.old).room ≤ (pairs_value slots.new lists.new).room }
 {
-    if let Some(slot) = find_slot(&lists.dot, numbers) {
+    if let Some(slot) = find_slot(lists, numbers) {
         take_old(slots, lists, numbers, slot);
     }
 }
@@ -76,7 +76,7 @@ pub(crate) fn remove_in(slots: &mut Slots, lists: &mut Lists, numbers: &Numbers)
 // Takes out the pair that has these numbers in that slot.
 fn take_old(slots: &mut Slots, lists: &mut Lists, numbers: &Numbers, slot: u32)
     requires is { IsPairs slots.old lists.old }
-    requires member { Has lists.old.dot.elements (slotted_key numbers.now slot) }
+    requires member { Has (dots_in lists.old) (slotted_key numbers.now slot) }
     ensures is { IsPairs slots.new lists.new }
     ensures members { (other : Numbers × Tagged) → Has (pairs_value slots.new lists.new).pairs other
         ↔ (Has (pairs_value slots.old lists.old).pairs other × ¬ (other.0 ≡ numbers.now)) }

@@ -3,11 +3,12 @@ ghost use Rattle.std.specs.Prelude.{◌≡◌, ◌↔◌, ℕ, IfSome, IfNone, I
 ghost use Rattle.tree_clock.specs.Lists.{Has, IsAscending};
 ghost use Rattle.pair_orders.specs.KeyFronts.{HasFront};
 ghost use Rattle.pair_orders.specs.Keys.{slotted_key, shape_cmp};
+ghost use Rattle.pair_orders.specs.KeptPairs.{AreLists, dots_in};
 ghost use Rattle.pair_orders.specs.declared.keys.Key.{Key};
-ghost use Rattle.pair_orders.specs.declared.keys.Shape.TheVariants.{Dot, Subject};
 
 use crate::fronts::{BeforeFront, compare_front};
 use crate::keys::{Key, Numbers, Shape};
+use crate::lists::{Lists, by_dot, keys_in};
 use chunked_list::Chunked;
 
 // The first key that begins with these numbers in an order.
@@ -23,22 +24,22 @@ fn first_with<'a>(keys: &'a Chunked<Key>, shape: Shape, front: &[u32]) -> Option
     None
 }
 
-/// The slot of the key that has these numbers, of those by dot.
-pub(crate) fn find_slot(dots: &Chunked<Key>, numbers: &Numbers) -> Option<u32>
-    requires { IsAscending (shape_cmp Dot) dots.now.elements }
-    ensures some { IfSome result (λ slot. Has dots.now.elements (slotted_key numbers.now slot)) }
-    ensures none { IfNone result ((slot : ℕ) → ¬ Has dots.now.elements (slotted_key numbers.now slot)) }
+/// The slot of the key that has these numbers, by dot.
+pub(crate) fn find_slot(lists: &Lists, numbers: &Numbers) -> Option<u32>
+    requires { AreLists lists.now }
+    ensures some { IfSome result (λ slot. Has (dots_in lists.now) (slotted_key numbers.now slot)) }
+    ensures none { IfNone result ((slot : ℕ) → ¬ Has (dots_in lists.now) (slotted_key numbers.now slot)) }
 {
     let front = [numbers.path, numbers.tick, numbers.s, numbers.p, numbers.o];
-    let first = first_with(dots, Shape::Dot, &front)?;
+    let first = first_with(by_dot(lists), Shape::Dot, &front)?;
     Some(first.slot)
 }
 
-/// Whether a key has these numbers of terms, of those by subject.
-pub(crate) fn has_terms(keys: &Chunked<Key>, s: u32, p: u32, o: u32) -> bool
-    requires { IsAscending (shape_cmp Subject) keys.now.elements }
-    ensures { IsTrue result ↔ ((key : Key) × Has keys.now.elements key × (key.s ≡ s) × (key.p ≡ p) × (key.o ≡ o)) }
+/// Whether a key has these numbers of terms.
+pub(crate) fn has_terms(lists: &Lists, s: u32, p: u32, o: u32) -> bool
+    requires { AreLists lists.now }
+    ensures { IsTrue result ↔ ((key : Key) × Has (dots_in lists.now) key × (key.s ≡ s) × (key.p ≡ p) × (key.o ≡ o)) }
 {
     let front = [s, p, o];
-    first_with(keys, Shape::Subject, &front).is_some()
+    first_with(keys_in(lists, Shape::Subject), Shape::Subject, &front).is_some()
 }

@@ -1,5 +1,7 @@
 //! The places of keys that begin with given numbers.
-ghost use Rattle.std.specs.Prelude.{◌≡◌};
+ghost use Rattle.std.specs.Prelude.{◌≡◌, ◌≤◌, length};
+ghost use Rattle.std.specs.Cmp.Lexicographic.{slice_cmp};
+ghost use Rattle.std.specs.Ordering.{nat_cmp};
 ghost use Rattle.pair_orders.specs.KeyFronts.{key_front_cmp};
 
 use crate::keys::{Key, Shape};
@@ -12,7 +14,25 @@ pub(crate) fn compare_front(shape: Shape, front: &[u32], key: &Key) -> Ordering
 {
     let ranks = key.ranks(shape);
     let end = front.len().min(ranks.len());
-    ranks[..end].cmp(front)
+    compare_numbers(&ranks[..end], front)
+}
+
+// How two lists of few numbers compare, up to the first that differ. The second isn't the shorter one.
+fn compare_numbers(a: &[u32], b: &[u32]) -> Ordering
+    requires { length a.now ≤ length b.now }
+    ensures { result ≡ slice_cmp nat_cmp a.now b.now }
+{
+    for i in 0..a.len() {
+        let found = a[i].cmp(&b[i]);
+        if found.is_ne() {
+            return found;
+        }
+    }
+    let shorter = a.len() < b.len();
+    if shorter {
+        return Ordering::Less;
+    }
+    Ordering::Equal
 }
 
 /// The place of the keys that begin with these numbers.

@@ -1,6 +1,7 @@
 //! The numbers of pairs, their keys, and the orders of these.
 ghost use Rattle.std.specs.Prelude.{◌≡◌};
-ghost use Rattle.pair_orders.specs.Keys.{slotted_key, key_numbers, ranks, shape_cmp, LeadsIn};
+ghost use Rattle.std.specs.Ordering.{nat_cmp, ordering_then};
+ghost use Rattle.pair_orders.specs.Keys.{slotted_key, key_numbers, ranks, shape_cmp, three_cmp, LeadsIn, LeadsByTerms};
 
 use chunked_list::{Keyed, Order};
 use std::cmp::Ordering;
@@ -34,7 +35,8 @@ pub struct Places {
 impl Places {
     /// The order in which the wanted places lead.
     pub fn shape(&self) -> Shape
-        ensures { LeadsIn result self.now }
+        ensures leads { LeadsIn result self.now }
+        ensures terms { LeadsByTerms result }
     {
         match (self.s, self.p, self.o) {
             (None, Some(_), _) => Shape::Predicate,
@@ -137,7 +139,57 @@ impl Shape {
     pub(crate) fn compare_keys(self, a: &Key, b: &Key) -> Ordering
         ensures { result ≡ shape_cmp self a.now b.now }
     {
-        a.ranks(self).cmp(&b.ranks(self))
+        match self {
+            Shape::Dot => then_three(
+                compare_three((a.path, a.tick, a.s), (b.path, b.tick, b.s)),
+                (a.p, a.o, a.slot),
+                (b.p, b.o, b.slot),
+            ),
+            Shape::Subject => then_three(
+                compare_three((a.s, a.p, a.o), (b.s, b.p, b.o)),
+                (a.path, a.tick, a.slot),
+                (b.path, b.tick, b.slot),
+            ),
+            Shape::Predicate => then_three(
+                compare_three((a.p, a.o, a.s), (b.p, b.o, b.s)),
+                (a.path, a.tick, a.slot),
+                (b.path, b.tick, b.slot),
+            ),
+            Shape::Object => then_three(
+                compare_three((a.o, a.s, a.p), (b.o, b.s, b.p)),
+                (a.path, a.tick, a.slot),
+                (b.path, b.tick, b.slot),
+            ),
+        }
+    }
+}
+
+// How three numbers compare with three, up to the first that differ.
+fn compare_three(a: (u32, u32, u32), b: (u32, u32, u32)) -> Ordering
+    ensures { result ≡ three_cmp a b }
+{
+    then_number(then_number(a.0.cmp(&b.0), a.1, b.1), a.2, b.2)
+}
+
+// How what compares so in front compares with a number more.
+fn then_number(front: Ordering, a: u32, b: u32) -> Ordering
+    ensures { result ≡ ordering_then front (nat_cmp a b) }
+{
+    match front {
+        Ordering::Less => Ordering::Less,
+        Ordering::Equal => a.cmp(&b),
+        Ordering::Greater => Ordering::Greater,
+    }
+}
+
+// How what compares so in front compares with three numbers more.
+fn then_three(front: Ordering, a: (u32, u32, u32), b: (u32, u32, u32)) -> Ordering
+    ensures { result ≡ ordering_then front (three_cmp a b) }
+{
+    match front {
+        Ordering::Less => Ordering::Less,
+        Ordering::Equal => compare_three(a, b),
+        Ordering::Greater => Ordering::Greater,
     }
 }
 

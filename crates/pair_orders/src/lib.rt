@@ -1,6 +1,7 @@
 //! Pairs by the numbers of their terms: each stands once, in a slot, and its key stands in four orders.
 #![tactic(auto)]
 
+mod building;
 mod changes;
 mod finds;
 mod fronts;
@@ -14,8 +15,9 @@ mod searches;
 mod slots;
 mod steps;
 
+pub use chunked_list;
 pub use keys::{Numbers, Places, Shape};
 pub use orders::KeyOrder;
 pub use pairs::NumberedPairs;
 pub use searches::search;
-pub use steps::CountedSteps;
+pub use steps::Steps;

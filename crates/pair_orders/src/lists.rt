@@ -1,46 +1,67 @@
 //! Keys in four orders.
-ghost use Rattle.std.specs.Prelude.{◌≡◌, ◌+◌, ◌<◌, ◌≤◌, ◌⊎◌, ◌↔◌, [], OnOk};
+ghost use Rattle.std.specs.Prelude.{◌≡◌, ◌+◌, ◌<◌, ◌≤◌, ◌⊎◌, ◌↔◌, ◌∷◌, [], OnOk};
 ghost use Rattle.tree_clock.specs.Lists.{Has, IsAscending};
 ghost use Rattle.pair_orders.specs.Keys.{shape_cmp};
-ghost use Rattle.pair_orders.specs.KeptPairs.{AreLists, AreKeysOf, lists_room};
+ghost use Rattle.pair_orders.specs.KeptPairs.{AreLists, AreKeysOf, lists_room, list_at, dots_in};
 ghost use Rattle.pair_orders.specs.declared.keys.Key.{Key};
 
 use crate::keys::{Key, Shape};
 use chunked_list::Chunked;
 use std::alloc::{AllocError, Global};
 
-/// The same keys in each order.
+/// The same keys in each order: by dot, by subject, by predicate, by object.
 #[derive(Drop)]
 pub(crate) struct Lists {
-    pub(crate) dot: Chunked<Key>,
-    pub(crate) subject: Chunked<Key>,
-    pub(crate) predicate: Chunked<Key>,
-    pub(crate) object: Chunked<Key>,
+    pub(crate) keys: [Chunked<Key>; 4],
 }
 
 /// No keys.
 pub(crate) fn no_lists(alloc: Global) -> Lists
     ensures is { AreLists result }
-    ensures none { result.dot.elements ≡ [] }
+    ensures none { dots_in result ≡ [] }
 {
     Lists {
-        dot: Chunked::new(alloc),
-        subject: Chunked::new(alloc),
-        predicate: Chunked::new(alloc),
-        object: Chunked::new(alloc),
+        keys: [
+            Chunked::new(alloc),
+            Chunked::new(alloc),
+            Chunked::new(alloc),
+            Chunked::new(alloc),
+        ],
     }
+}
+
+/// Lists of the same keys.
+pub(crate) fn lists_of(
+    dot: Chunked<Key>,
+    subject: Chunked<Key>,
+    predicate: Chunked<Key>,
+    object: Chunked<Key>,
+) -> Lists
+    ensures { result.keys ≡ dot ∷ subject ∷ predicate ∷ object ∷ [] }
+{
+    Lists {
+        keys: [dot, subject, predicate, object],
+    }
+}
+
+/// The keys by dot.
+pub(crate) fn by_dot(lists: &Lists) -> &Chunked<Key>
+    requires { AreLists lists.now }
+    ensures { result.now ≡ list_at lists.now 0 }
+{
+    &lists.keys[0]
 }
 
 /// The keys in an order.
 pub(crate) fn keys_in(lists: &Lists, shape: Shape) -> &Chunked<Key>
     requires { AreLists lists.now }
-    ensures { AreKeysOf shape result.now.elements lists.now.dot.elements }
+    ensures { AreKeysOf shape result.now.elements (dots_in lists.now) }
 {
     match shape {
-        Shape::Dot => &lists.dot,
-        Shape::Subject => &lists.subject,
-        Shape::Predicate => &lists.predicate,
-        Shape::Object => &lists.object,
+        Shape::Dot => &lists.keys[0],
+        Shape::Subject => &lists.keys[1],
+        Shape::Predicate => &lists.keys[2],
+        Shape::Object => &lists.keys[3],
     }
 }
 
@@ -48,14 +69,14 @@ pub(crate) fn keys_in(lists: &Lists, shape: Shape) -> &Chunked<Key>
 pub(crate) fn make_room(alloc: Global, lists: &mut Lists, more: usize) -> Result<(), AllocError>
     requires { AreLists lists.old }
     ensures is { AreLists lists.new }
-    ensures dots { lists.new.dot.elements ≡ lists.old.dot.elements }
+    ensures dots { dots_in lists.new ≡ dots_in lists.old }
     ensures ok { OnOk result (more ≤ lists_room lists.new) }
     ensures kept { lists_room lists.old ≤ lists_room lists.new }
 {
-    lists.dot.prepare(alloc, more)?;
-    lists.subject.prepare(alloc, more)?;
-    lists.predicate.prepare(alloc, more)?;
-    lists.object.prepare(alloc, more)?;
+    lists.keys[0].prepare(alloc, more)?;
+    lists.keys[1].prepare(alloc, more)?;
+    lists.keys[2].prepare(alloc, more)?;
+    lists.keys[3].prepare(alloc, more)?;
     Ok(())
 }
 
@@ -64,24 +85,24 @@ pub(crate) fn put_key(lists: &mut Lists, key: Key)
     requires is { AreLists lists.old }
     requires room { 0 < lists_room lists.old }
     ensures is { AreLists lists.new }
-    ensures members { (other : Key) → Has lists.new.dot.elements other ↔ (Has lists.old.dot.elements other ⊎ (other ≡ key)) }
+    ensures members { (other : Key) → Has (dots_in lists.new) other ↔ (Has (dots_in lists.old) other ⊎ (other ≡ key)) }
     ensures room { lists_room lists.old ≤ lists_room lists.new + 1 }
 {
-    lists.dot.insert(&Shape::Dot, key);
-    lists.subject.insert(&Shape::Subject, key);
-    lists.predicate.insert(&Shape::Predicate, key);
-    lists.object.insert(&Shape::Object, key);
+    lists.keys[0].insert(&Shape::Dot, key);
+    lists.keys[1].insert(&Shape::Subject, key);
+    lists.keys[2].insert(&Shape::Predicate, key);
+    lists.keys[3].insert(&Shape::Object, key);
 }
 
 /// Takes a key out of each order. It takes no memory.
 pub(crate) fn take_key(lists: &mut Lists, key: &Key)
     requires is { AreLists lists.old }
     ensures is { AreLists lists.new }
-    ensures members { (other : Key) → Has lists.new.dot.elements other ↔ (Has lists.old.dot.elements other × ¬ (other ≡ key.now)) }
+    ensures members { (other : Key) → Has (dots_in lists.new) other ↔ (Has (dots_in lists.old) other × ¬ (other ≡ key.now)) }
     ensures room { lists_room lists.old ≤ lists_room lists.new }
 {
-    lists.dot.remove(&Shape::Dot, key);
-    lists.subject.remove(&Shape::Subject, key);
-    lists.predicate.remove(&Shape::Predicate, key);
-    lists.object.remove(&Shape::Object, key);
+    lists.keys[0].remove(&Shape::Dot, key);
+    lists.keys[1].remove(&Shape::Subject, key);
+    lists.keys[2].remove(&Shape::Predicate, key);
+    lists.keys[3].remove(&Shape::Object, key);
 }

@@ -7,7 +7,7 @@ ghost use Rattle.pair_orders.specs.PairEntries.{entries_of};
 
 use crate::keys::{Key, Places, Shape};
 use crate::lends::add_pair;
-use crate::steps::CountedSteps;
+use crate::steps::Steps;
 use chunked_list::Chunked;
 use mld_ops::Tagged;
 use std::alloc::{AllocError, Global};
@@ -18,9 +18,9 @@ use std::sync::ledger::Ledger;
 /// An order of pairs. It shows them by two calls alone, and both count their steps.
 #[derive(Drop)]
 pub struct KeyOrder<'a> {
-    pub(crate) shape: Shape,
-    pub(crate) keys: &'a Chunked<Key>,
-    pub(crate) slots: &'a [Option<Tagged>],
+    shape: Shape,
+    keys: &'a Chunked<Key>,
+    slots: &'a [Option<Tagged>],
 }
 
 impl<'a> Model for KeyOrder<'a> {
@@ -33,6 +33,18 @@ impl<'a> Model for KeyOrder<'a> {
     ghost invariant = { λ order. IsOrder order.shape order.keys.now.elements order.slots.now };
 }
 
+/// The order that keys have, of which the pairs stand in slots.
+pub(crate) fn order_of<'a>(
+    shape: Shape,
+    keys: &'a Chunked<Key>,
+    slots: &'a [Option<Tagged>],
+) -> KeyOrder<'a>
+    requires { IsOrder shape keys.now.elements slots.now }
+    ensures { result ≡ record { shape = shape; keys = keys.now.elements; slots = slots.now } }
+{
+    KeyOrder { shape, keys, slots }
+}
+
 impl<'a> KeyOrder<'a> {
     /// The number of keys, which ascend and have pairs in their slots.
     pub fn len(&self) -> usize
@@ -43,12 +55,7 @@ impl<'a> KeyOrder<'a> {
     }
 
     /// How wanted places compare with the key at a place. It is one step.
-    pub fn compare<L: Ledger>(
-        &self,
-        at: usize,
-        wanted: &Places,
-        steps: &mut CountedSteps<L>,
-    ) -> Ordering
+    pub fn compare<L: Ledger>(&self, at: usize, wanted: &Places, steps: &mut Steps<L>) -> Ordering
         requires { at < length self.now.keys }
         ensures order { (none : Key) → result ≡ places_cmp self.now.shape wanted.now (slice_index_or self.now.keys at none) }
         ensures step { steps.new ≡ steps.old + 1 }
@@ -63,7 +70,7 @@ impl<'a> KeyOrder<'a> {
         alloc: Global,
         from: usize,
         to: usize,
-        steps: &mut CountedSteps<L>,
+        steps: &mut Steps<L>,
     ) -> Result<Vec<&'a Tagged>, AllocError>
         requires from { from ≤ to }
         requires to { to ≤ length self.now.keys }
@@ -118,7 +125,7 @@ fn lend_pairs<'a, L: Ledger>(
     alloc: Global,
     slots: &'a [Option<Tagged>],
     keys: &[&Key],
-    steps: &mut CountedSteps<L>,
+    steps: &mut Steps<L>,
 ) -> Result<Vec<&'a Tagged>, AllocError>
     ensures pairs { IfOk result (λ found. map (λ x. x.now) found.items
         ≡ map (λ entry. entry.1) (entries_of slots.now (map (λ x. x.now) keys.now))) }

@@ -8,16 +8,17 @@ ghost use Rattle.pair_orders.specs.Orders.{binary_digits, entries_with};
 ghost use Rattle.pair_orders.specs.PairEntries.{FindsEntries, StandOnce, HasNumbers, HasTerms, entries_of, is_of_ticks};
 ghost use Rattle.pair_orders.specs.declared.keys.Numbers.{Numbers};
 
+use crate::building::{fill_slots, sort_lists};
 use crate::changes::{insert_in, prepare_for, remove_in};
 use crate::finds::{find_slot, has_terms};
 use crate::fronts::{BeforeFront, UpToFront};
 use crate::keys::{Numbers, Places, Shape};
 use crate::lends::{lend_chunks, lend_found};
-use crate::lists::{Lists, keys_in, no_lists};
-use crate::orders::KeyOrder;
+use crate::lists::{Lists, by_dot, keys_in, no_lists};
+use crate::orders::{KeyOrder, order_of};
 use crate::searches::search;
 use crate::slots::{Slots, no_slots};
-use crate::steps::CountedSteps;
+use crate::steps::Steps;
 use mld_ops::Tagged;
 use std::alloc::{AllocError, Global};
 use std::marker::Model;
@@ -52,12 +53,26 @@ impl NumberedPairs {
         }
     }
 
+    /// The pairs of a list in which no two have the same numbers, sorted once for each order.
+    pub fn build(
+        alloc: Global,
+        entries: Vec<(Numbers, Tagged)>,
+    ) -> Result<NumberedPairs, AllocError>
+        requires { StandOnce (map (λ entry. entry.0) entries.items) }
+        ensures { IfOk result (λ made. (entry : Numbers × Tagged) → Has made.pairs entry ↔ Has entries.items entry) }
+    {
+        let mut slots = no_slots(alloc);
+        let keys = fill_slots(alloc, &mut slots, entries)?;
+        let lists = sort_lists(alloc, keys.as_slice())?;
+        Ok(NumberedPairs { slots, lists })
+    }
+
     /// The number of pairs, of which no two have the same numbers.
     pub fn len(&self) -> usize
         ensures len { result ≡ length self.now.pairs }
         ensures once { StandOnce (map (λ entry. entry.0) self.now.pairs) }
     {
-        self.lists.dot.len()
+        by_dot(&self.lists).len()
     }
 
     /// Makes room for so many pairs more.
@@ -92,14 +107,14 @@ impl NumberedPairs {
     pub fn has(&self, numbers: &Numbers) -> bool
         ensures { IsTrue result ↔ HasNumbers self.now.pairs numbers.now }
     {
-        find_slot(&self.lists.dot, numbers).is_some()
+        find_slot(&self.lists, numbers).is_some()
     }
 
     /// Whether a pair has these numbers of terms.
     pub fn has_triple(&self, s: u32, p: u32, o: u32) -> bool
         ensures { IsTrue result ↔ HasTerms self.now.pairs s p o }
     {
-        has_terms(&self.lists.subject, s, p, o)
+        has_terms(&self.lists, s, p, o)
     }
 
     /// The pairs of a path whose ticks are from the first to the last, by tick.
@@ -122,7 +137,7 @@ impl NumberedPairs {
             shape: Shape::Dot,
             front: &[path, last],
         };
-        let keys = self.lists.dot.between(alloc, &low, &high)?;
+        let keys = by_dot(&self.lists).between(alloc, &low, &high)?;
         lend_found(alloc, &self.slots.pairs, &keys)
     }
 
@@ -131,7 +146,7 @@ impl NumberedPairs {
         ensures pairs { IfOk result (λ found. map (λ x. x.now) found.items ≡ map (λ entry. entry.1) self.now.pairs) }
         ensures once { StandOnce (map (λ entry. entry.0) self.now.pairs) }
     {
-        let dots = &self.lists.dot;
+        let dots = by_dot(&self.lists);
         lend_chunks(alloc, &self.slots.pairs, dots.chunks(), dots.len())
     }
 
@@ -140,7 +155,7 @@ impl NumberedPairs {
         &self,
         alloc: Global,
         wanted: &Places,
-        steps: &mut CountedSteps<L>,
+        steps: &mut Steps<L>,
     ) -> Result<Vec<&Tagged>, AllocError>
         ensures found { IfOk result (λ found. FindsEntries (has_places wanted.now) self.now.pairs (map (λ x. x.now) found.items)) }
         ensures bound { steps.new ≤ steps.old + 2 * binary_digits (length self.now.pairs)
@@ -149,7 +164,10 @@ impl NumberedPairs {
     {
         // `len` tells that no two have the same numbers.
         let _ = self.len();
-        search(alloc, &self.order(wanted.shape()), wanted, steps)
+        let order = self.order(wanted.shape());
+        // That of an order tells that its keys ascend.
+        let _ = order.len();
+        search(alloc, &order, wanted, steps)
     }
 
     /// The pairs in an order.
@@ -159,10 +177,10 @@ impl NumberedPairs {
         ensures once { StandOnce (map (λ entry. entry.0) (entries_of result.slots result.keys)) }
         ensures length { length result.keys ≡ length self.now.pairs }
     {
-        KeyOrder {
+        order_of(
             shape,
-            keys: keys_in(&self.lists, shape),
-            slots: self.slots.pairs.as_slice(),
-        }
+            keys_in(&self.lists, shape),
+            self.slots.pairs.as_slice(),
+        )
     }
 }

@@ -6,7 +6,7 @@ ghost use Rattle.pair_orders.specs.PairEntries.{entries_of};
 
 use crate::keys::Places;
 use crate::orders::KeyOrder;
-use crate::steps::CountedSteps;
+use crate::steps::Steps;
 use mld_ops::Tagged;
 use std::alloc::{AllocError, Global};
 use std::sync::ledger::Ledger;
@@ -16,7 +16,7 @@ pub fn search<'a, L: Ledger>(
     alloc: Global,
     order: &KeyOrder<'a>,
     wanted: &Places,
-    steps: &mut CountedSteps<L>,
+    steps: &mut Steps<L>,
 ) -> Result<Vec<&'a Tagged>, AllocError>
     requires { LeadsIn order.now.shape wanted.now }
     ensures found { IfOk result (λ found. map (λ x. x.now) found.items
@@ -30,11 +30,7 @@ pub fn search<'a, L: Ledger>(
 }
 
 // The place of the first key that isn't in front of those that have the wanted places.
-fn first_not_before<L: Ledger>(
-    order: &KeyOrder<'_>,
-    wanted: &Places,
-    steps: &mut CountedSteps<L>,
-) -> usize
+fn first_not_before<L: Ledger>(order: &KeyOrder<'_>, wanted: &Places, steps: &mut Steps<L>) -> usize
     ensures order { IsOrder order.now.shape order.now.keys order.now.slots }
     ensures end { result ≤ length order.now.keys }
     ensures place { IsDividedAt (is_before_places order.now.shape wanted.now) order.now.keys result }
@@ -58,7 +54,7 @@ fn first_behind<L: Ledger>(
     order: &KeyOrder<'_>,
     wanted: &Places,
     from: usize,
-    steps: &mut CountedSteps<L>,
+    steps: &mut Steps<L>,
 ) -> usize
     requires end { from ≤ length order.now.keys }
     requires place { IsDividedAt (is_before_places order.now.shape wanted.now) order.now.keys from }

@@ -4,12 +4,12 @@ use std::sync::ledger::{Blank, Book, Ledger, Share};
 
 /// How many steps were taken. It takes no bytes, and only `tick` changes it.
 #[derive(Drop)]
-pub struct CountedSteps<L: Ledger> {
+pub struct Steps<L: Ledger> {
     book: Book<L>,
     share: Share<L>,
 }
 
-impl<L: Ledger> Model for CountedSteps<L> {
+impl<L: Ledger> Model for Steps<L> {
     ghost use Rattle.std.specs.Prelude.{ℕ, ◌<◌};
 
     ghost Value = { ℕ };
@@ -19,18 +19,18 @@ impl<L: Ledger> Model for CountedSteps<L> {
     ghost invariant = { λ steps. 0 < steps.share.parts };
 }
 
-impl<L: Ledger> CountedSteps<L> {
+impl<L: Ledger> Steps<L> {
     ghost use Rattle.std.specs.Prelude.{◌≡◌, ◌+◌, ◌<◌};
 
     /// No step, counted in the ledger of a blank that has a part.
-    pub fn new(blank: Blank) -> CountedSteps<L>
+    pub fn new(blank: Blank) -> Steps<L>
         requires name { blank.name ≡ L.name }
         requires parts { blank.parts ≡ L.parts }
         requires some { 0 < L.parts }
         ensures { result ≡ 0 }
     {
         let (book, share) = blank.open();
-        CountedSteps { book, share }
+        Steps { book, share }
     }
 
     /// One step more.

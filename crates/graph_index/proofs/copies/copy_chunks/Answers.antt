@@ -1,6 +1,6 @@
 use Rattle.std.proofs.Common.{◌∙◌, ◌++◌, sym, ap, take}
-use Rattle.chunked_list.specs.Joined.{joined_chunks}
-use Rattle.chunked_list.proofs.JoinedLaws.{joined_more}
+use Rattle.pair_orders.specs.chunked_list.Joined.{joined_chunks}
+use Rattle.pair_orders.proofs.of_chunked_list.JoinedLaws.{joined_more}
 use Rattle.graph_index.proofs.copies.copy_chunks.Goals as goal
 
 pub loop-chunk-preserved : goal.loop-chunk-preserved

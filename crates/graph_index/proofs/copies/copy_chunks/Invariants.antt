@@ -1,5 +1,5 @@
 use Rattle.std.proofs.Common.{◌≡◌, take}
-use Rattle.chunked_list.specs.Joined.{joined_chunks}
+use Rattle.pair_orders.specs.chunked_list.Joined.{joined_chunks}
 use Rattle.graph_index.proofs.copies.copy_chunks.Given as goal
 
 abbrev pub invariant-loop-chunk : goal.invariant-loop-chunk

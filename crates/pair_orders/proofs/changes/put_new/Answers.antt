@@ -1,3 +1,4 @@
+use Rattle.pair_orders.specs.KeptPairs.{dots_in}
 use Rattle.pair_orders.proofs.Changing.{put_is, put_entries}
 use Rattle.pair_orders.proofs.changes.put_new.Goals as goal
 
@@ -8,5 +9,5 @@ returns-clause-is c =
 
 pub returns-clause-members : goal.returns-clause-members
 returns-clause-members c =
-    put_entries c.args.slots.now.pairs.items c.take_slot-slot.new.slots.pairs.items c.args.lists.now.dot.elements c.put_key.new.lists.dot.elements c.args.numbers c.args.pair c.take_slot-slot.result c.new.result
+    put_entries c.args.slots.now.pairs.items c.take_slot-slot.new.slots.pairs.items (dots_in c.args.lists.now) (dots_in c.put_key.new.lists) c.args.numbers c.args.pair c.take_slot-slot.result c.new.result
     c.requires.is.held c.take_slot-slot.ensures.empty c.take_slot-slot.ensures.put c.requires.none c.put_key.ensures.members c.new.ensures

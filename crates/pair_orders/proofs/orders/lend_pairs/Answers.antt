@@ -1,4 +1,4 @@
-use Rattle.std.proofs.Common.{◌+◌, map, arith}
+use Rattle.std.proofs.Common.{map, arith}
 use Rattle.pair_orders.proofs.Lending.{lent_found_more}
 use Rattle.pair_orders.proofs.orders.lend_pairs.Goals as goal
 

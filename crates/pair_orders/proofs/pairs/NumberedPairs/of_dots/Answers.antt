@@ -1,4 +1,9 @@
-use Rattle.std.proofs.Common.{◌∙◌, ◌∷◌, [], map, ap}
+use Rattle.std.proofs.Common.{◌∙◌, ◌∷◌, [], map, ap, subst, sym}
+use Rattle.chunked_list.specs.Room.{ChunkedValue}
+use Rattle.tree_clock.specs.Lists.{IsAscending}
+use Rattle.pair_orders.specs.Keys.{shape_cmp}
+use Rattle.pair_orders.specs.PairEntries.{entries_of}
+use Rattle.pair_orders.specs.declared.keys.Key.{Key}
 use Rattle.pair_orders.specs.declared.keys.Shape.TheVariants.{Dot}
 use Rattle.pair_orders.proofs.Changing.{numbers_once}
 use Rattle.pair_orders.proofs.Fronting.{before_front, up_to_front}
@@ -6,16 +11,20 @@ use Rattle.pair_orders.proofs.Lending.{within_pairs, ok_weaker}
 use Rattle.pair_orders.proofs.pairs.NumberedPairs.of_dots.Goals as goal
 
 pub between-requires-clause-first : goal.between-requires-clause-first
-between-requires-clause-first c = before_front Dot (c.args.path ∷ c.args.first ∷ []) c.self.inside.lists.dot.elements c.self.invariant.lists_are.dot
+between-requires-clause-first c =
+    before_front Dot (c.args.path ∷ c.args.first ∷ []) c.by_dot.result.now.elements
+    (subst (λ (l : ChunkedValue Key). IsAscending (shape_cmp Dot) l.elements) (sym c.by_dot.ensures) c.self.invariant.lists_are.dot)
 
 pub between-requires-clause-second : goal.between-requires-clause-second
-between-requires-clause-second c = up_to_front Dot (c.args.path ∷ c.args.last ∷ []) c.self.inside.lists.dot.elements c.self.invariant.lists_are.dot
+between-requires-clause-second c =
+    up_to_front Dot (c.args.path ∷ c.args.last ∷ []) c.by_dot.result.now.elements
+    (subst (λ (l : ChunkedValue Key). IsAscending (shape_cmp Dot) l.elements) (sym c.by_dot.ensures) c.self.invariant.lists_are.dot)
 
 pub returns-clause-found : goal.returns-clause-found
 returns-clause-found c =
     ok_weaker c.lend_found.result
-    (λ found h. h ∙ within_pairs c.self.inside.slots.pairs.items c.deref.result.now c.self.inside.lists.dot.elements (map (λ x. x.now) c.deref-2.result.now) c.args.self.now.pairs c.args.path c.args.first c.args.last
-    c.deref.ensures.value (ap (λ v. v.pairs) c.self.view_is) (ap (map (λ x. x.now)) c.deref-2.ensures.value ∙ c.in_ok-keys.ensures))
+    (λ found h. h ∙ within_pairs c.self.inside.slots.pairs.items c.deref.result.now c.by_dot.result.now.elements (map (λ x. x.now) c.deref-2.result.now) c.args.self.now.pairs c.args.path c.args.first c.args.last
+    c.deref.ensures.value (ap (λ (l : ChunkedValue Key). entries_of c.self.inside.slots.pairs.items l.elements) c.by_dot.ensures ∙ ap (λ v. v.pairs) c.self.view_is) (ap (map (λ x. x.now)) c.deref-2.ensures.value ∙ c.in_ok-keys.ensures))
     c.lend_found.ensures
 
 pub returns-clause-once : goal.returns-clause-once

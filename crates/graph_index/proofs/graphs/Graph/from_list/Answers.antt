@@ -1,0 +1,10 @@
+use Rattle.graph_index.proofs.Entries.{ascending_once}
+use Rattle.graph_index.proofs.Fitting.{made_is}
+use Rattle.graph_index.proofs.graphs.Graph.from_list.Goals as goal
+
+pub with_numbers-requires-clause-once : goal.with_numbers-requires-clause-once
+with_numbers-requires-clause-once c = ascending_once c.args.list.items c.requires
+
+pub returns : goal.returns
+returns c =
+    made_is c.in_ok-numbered.numbered.pairs c.in_ok-entries.entries.items c.args.list.items c.requires c.in_ok-numbered.ensures c.in_ok-entries.ensures.members

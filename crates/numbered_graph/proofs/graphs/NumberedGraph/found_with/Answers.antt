@@ -1,8 +1,0 @@
-use Rattle.std.proofs.Common.{ap, map, refl}
-use Rattle.graph_index.proofs.Ranging.{ok_weaker}
-use Rattle.numbered_graph.proofs.Finding.{of_triple_found}
-use Rattle.numbered_graph.proofs.graphs.NumberedGraph.found_with.Goals as goal
-
-pub returns-clause-found : goal.returns-clause-found
-returns-clause-found g c =
-    ok_weaker c.scan.result (λ found h. of_triple_found c.args.self.now.pairs c.args.triple.now (map (λ x. x.now) found.items) h) c.scan.ensures.found

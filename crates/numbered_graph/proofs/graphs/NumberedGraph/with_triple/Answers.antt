@@ -1,9 +1,0 @@
-use Rattle.std.proofs.Common.{◌∙◌, map}
-use Rattle.graph_index.specs.Matching.{is_of}
-use Rattle.numbered_graph.proofs.Finding.{found_sorted}
-use Rattle.numbered_graph.proofs.graphs.NumberedGraph.with_triple.Goals as goal
-
-pub returns : goal.returns
-returns c =
-    c.sort_found.ensures
-    ∙ found_sorted c.args.self.now.pairs (is_of c.args.triple.now) (map (λ x. x.now) c.in_ok-found.found.items) c.in_ok-found.ensures.ascending c.in_ok-found.ensures.found

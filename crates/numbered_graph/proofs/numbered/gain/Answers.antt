@@ -1,7 +1,0 @@
-use Rattle.numbered_graph.proofs.Moving.{come_members, there_or_not}
-use Rattle.numbered_graph.proofs.numbered.gain.Goals as goal
-
-pub returns-in-Some-clause-members : goal.returns-in-Some-clause-members
-returns-in-Some-clause-members c =
-    come_members c.args.tables.now c.args.numbered.now.pairs c.insert.new.self.pairs c.args.pair c.in-Some.numbers c.requires.numbered c.in-Some.ensures.some c.insert.ensures.members
-    (there_or_not c.args.numbered.now.pairs c.in-Some.numbers)

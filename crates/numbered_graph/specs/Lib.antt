@@ -1,3 +1,0 @@
-pub mod ByIris
-pub mod NumberedGraphs
-pub mod TermNumbers
