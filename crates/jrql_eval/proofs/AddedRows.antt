@@ -13,7 +13,7 @@ use Rattle.jrql_ast.specs.Solutions.{agree, matches_from}
 use Rattle.jrql_eval.specs.declared.faults.EvalFault.{EvalFault}
 use Rattle.jrql_eval.specs.declared.faults.EvalFault.TheVariants.{TooMany, NoMemory}
 use Rattle.jrql_eval.specs.declared.plans.Stage.{Stage}
-use Rattle.jrql_eval.specs.AddedRows.{AddsRows, FindsRows}
+use Rattle.jrql_eval.specs.AddedRows.{AddsInAnyOrder, FindsRows}
 use Rattle.std.proofs.lemmas.List.Folds.{flat_map-map}
 use Rattle.jrql_eval.proofs.SearchSteps.{too_many_by}
 use Rattle.jrql_eval.specs.Evaluating.{IsBinding, all_hold, checks_of, planned, led_to, led_from}
@@ -45,8 +45,8 @@ pub led_lost : (graph : List Triple) (filters : List Filter) (stage : Stage) (st
 led_lost graph filters stage stages o next e h = ap (led_from graph filters stage stages) e ∙ ap (filter (all_hold filters)) (h (planned stages))
 
 -- the same rows
-pub adds_same : {X : Type 0} (old added others new : List (List (Option Term))) (result : Result X EvalFault) → added ≡ others → AddsRows old added result new → AddsRows old others result new
-adds_same old added others new result e a = subst (λ rows. AddsRows old rows result new) e a
+pub adds_same : {X : Type 0} (old added others new : List (List (Option Term))) (result : Result X EvalFault) → added ≡ others → AddsInAnyOrder old added result new → AddsInAnyOrder old others result new
+adds_same old added others new result e a = subst (λ rows. AddsInAnyOrder old rows result new) e a
 
 -- what was found, where it isn't too much
 pub finds_ok : {A : Type 0} (rows : List (List (Option Term))) (result : Result (Vec (List (Option Term)) A) EvalFault) → FindsRows rows result
@@ -56,12 +56,12 @@ finds_ok rows (Err fault) f = tt
 
 -- one triple more leads to too many
 pub adds_err : {X : Type 0} (f : X → List (List (Option Term))) (xs : List (Bor X)) (i : ℕ) (x : Bor X) (old now new : List (List (Option Term))) (fault : EvalFault)
-    → i < length xs → x ≡ get_or xs i x → now ≡ old ++ flat_map f (map (λ y. y.now) (take i xs))
-    → AddsRows {X = Unit {0}} now (f x.now) (Err fault) new → AddsRows {X = Unit {0}} old (flat_map f (map (λ y. y.now) xs)) (Err fault) new
-adds_err f xs i x old now new TooMany l is e a =
-    let many = too_many_by (λ y. f y.now) xs i x old now l is (e ∙ ap (λ rows. old ++ rows) (flat_map-map f (λ y. y.now) (take i xs))) a in
+    → i < length xs → x ≡ get_or xs i x → IsPermutation (old ++ flat_map f (map (λ y. y.now) (take i xs))) now
+    → AddsInAnyOrder {X = Unit {0}} now (f x.now) (Err fault) new → AddsInAnyOrder {X = Unit {0}} old (flat_map f (map (λ y. y.now) xs)) (Err fault) new
+adds_err f xs i x old now new TooMany l is p a =
+    let many = too_many_by (λ y. f y.now) xs i x old now l is (subst (λ z. IsPermutation (old ++ z) now) (flat_map-map f (λ y. y.now) (take i xs)) p) a in
     subst (λ rows. solution_limit < length old + length rows) (sym (flat_map-map f (λ y. y.now) xs)) many
-adds_err f xs i x old now new NoMemory l is e a = tt
+adds_err f xs i x old now new NoMemory l is p a = tt
 
 -- the same checks in the same row
 pub moved_checks : (graph : List Triple) (given checks : List (Bor PatternTriple)) (row next : List (Option Term)) (b : Bool) → given ≡ checks → row ≡ next
@@ -84,3 +84,7 @@ few_of rows given f = let e = length_permutation rows given f.0 in let h = f.1 i
 pub on_ok_weaker : {A E P Q : Type 0} (result : Result A E) → (P → Q) → OnOk result P → OnOk result Q
 on_ok_weaker (Ok done) f h = f h
 on_ok_weaker (Err e) f h = tt
+
+pub on_ok_always : {A E P : Type 0} (result : Result A E) → P → OnOk result P
+on_ok_always (Ok done) h = h
+on_ok_always (Err e) h = tt

@@ -1,11 +1,11 @@
 -- The solutions of a group, branch by branch.
-use Rattle.std.proofs.Common.{◌≡◌, ◌∙◌, ℕ, zero, suc, ◌==◌, true≢false, ◌+◌, ◌<◌, List, [], ◌∷◌, ◌++◌, Bool, Option, Result, Ok, Err, if◌then◌else◌, true, false, None, replicate, length, get_or, map, take, filter, flat_map, refl, sym, ap, subst, append-nil, arith}
+use Rattle.std.proofs.Common.{◌≡◌, ◌∙◌, ℕ, zero, suc, ◌==◌, true≢false, ◌+◌, ◌<◌, List, [], ◌∷◌, ◌++◌, Bool, Option, Err, if◌then◌else◌, true, false, None, replicate, length, get_or, map, take, filter, flat_map, refl, sym, ap, subst, append-nil, arith}
 use Rattle.std.specs.List.Sorted.{IsPermutation}
 use Rattle.std.proofs.lemmas.List.{take_more}
 use Rattle.std.proofs.lemmas.List.Concat.{flat_map-append}
 use Rattle.std.proofs.lemmas.List.Elements.{filter-append}
 use Rattle.std.proofs.lemmas.List.Folds.{length-flat_map-take}
-use Rattle.std.proofs.lemmas.List.Sorted.{IsPermutation-trans, IsPermutation-append_left, IsPermutation-append_right, length_permutation}
+use Rattle.std.proofs.lemmas.List.Sorted.{IsPermutation-trans, IsPermutation-append_left, length_permutation}
 use Rattle.rdf_terms.specs.declared.terms.Term.{Term}
 use Rattle.rdf_terms.specs.declared.terms.Triple.{Triple}
 use Rattle.jrql_ast.specs.declared.patterns.Group.{Group}
@@ -17,7 +17,7 @@ use Rattle.jrql_ast.proofs.Rearranging.{filter_permutes}
 use Rattle.std.specs.declared.cmp.Ordering.{Ordering}
 use Rattle.jrql_eval.specs.declared.faults.EvalFault.{EvalFault}
 use Rattle.jrql_eval.specs.declared.faults.EvalFault.TheVariants.{TooMany, NoMemory}
-use Rattle.jrql_eval.specs.AddedRows.{AddsRows, AddsInAnyOrder, FindsRows, of_branch}
+use Rattle.jrql_eval.specs.AddedRows.{AddsInAnyOrder, FindsRows, of_branch}
 use Rattle.jrql_eval.specs.ColumnOrder.{AreColumnsOf}
 use Rattle.jrql_ast.specs.InForm.{variables_of}
 use Rattle.jrql_eval.specs.declared.plans.Plan.{Plan}
@@ -42,14 +42,6 @@ found_of_branches graph group h = found_is graph group ∙ ap (flat_map (of_bran
 -- one branch that is empty
 pub found_of_none : (graph : List Triple) (group : Group) → group.branches ≡ [] → found graph group ≡ of_branch graph group []
 found_of_none graph group e = found_is graph group ∙ ap (λ branches. flat_map (of_branch graph group) (branches_of branches)) e ∙ append-nil (of_branch graph group [])
-
--- what is added in another order
-pub added_in_order : {X : Type 0} (old added others new : List (List (Option Term))) (result : Result X EvalFault) → IsPermutation added others
-    → AddsRows old others result new → AddsInAnyOrder old added result new
-added_in_order old added others new (Ok done) p a =
-    (subst (IsPermutation (old ++ added)) (sym a.0) (IsPermutation-append_right old added others p), a.1)
-added_in_order old added others new (Err TooMany) p a = let e = length_permutation added others p in omega (arith, a, e)
-added_in_order old added others new (Err NoMemory) p a = tt
 
 -- the patterns in the order of a plan
 pub planned_branch : (graph : List Triple) (group : Group) (branch checks stages : List PatternTriple) → IsPermutation (group.patterns ++ branch) (checks ++ stages)

@@ -7,7 +7,7 @@ use Rattle.std.specs.Ordering.{is_lt, nat_cmp}
 use Rattle.std.proofs.lemmas.List.Elements.{All-push}
 use Rattle.std.proofs.lemmas.List.Sorted.{All-permutation, IsPermutation-map}
 use Rattle.jrql_eval.specs.ColumnOrder.{AreColumnsOf}
-use Rattle.jrql_eval.proofs.TripleScans.{view_sorted}
+use Rattle.graph_index.proofs.Sorting.{view_sorted}
 
 -- a range goes on at its end
 range_goes_on : (first n : ℕ) → range_with_len first (suc n) ≡ range_with_len first n ++ (first + n) ∷ []

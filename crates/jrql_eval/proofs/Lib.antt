@@ -3,11 +3,14 @@ pub mod AnswerLaws
 pub mod BranchLaws
 pub mod ColumnLaws
 pub mod DescribeLaws
+pub mod EachOnce
 pub mod EffectsByPlan
 pub mod FirstMost
-pub mod Integers
+pub mod IriTerms
 pub mod PlanSteps
 pub mod Planned
+pub mod RefusedRows
 pub mod Scanned
 pub mod SearchSteps
 pub mod TripleScans
+pub mod Unbinding

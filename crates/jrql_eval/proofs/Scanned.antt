@@ -1,10 +1,12 @@
 -- What is found by going over the triples that a pattern may be.
 use Rattle.std.proofs.Common.{◌≡◌, ◌∙◌, ℕ, zero, suc, ◌+◌, ◌<◌, length, get_or, drop, Bor, arith, List, [], ◌∷◌, ◌++◌, Bool, true, ◌&&◌, cond, Option, None, Some, map, filter, filter_map, flat_map, refl, sym, ap, subst, inl, inr, true≢false, append-nil}
 use Rattle.std.specs.List.{cons_option}
+use Rattle.std.specs.List.Sorted.{IsPermutation}
 use Rattle.std.specs.Cmp.{IsTotalOrder}
 use Rattle.std.specs.declared.cmp.Ordering.{Ordering}
 use Rattle.std.specs.declared.cmp.Ordering.TheVariants.{Less}
 use Rattle.std.proofs.lemmas.Bool.{cases_Bool}
+use Rattle.std.proofs.lemmas.List.Sorted.{IsPermutation-refl, IsPermutation-trans, IsPermutation-cons, IsPermutation-append_left, IsPermutation-append_comm}
 use Rattle.std.proofs.lemmas.Slice.Eq.{bytes_eq-Decides}
 use Rattle.rdf_terms.specs.declared.terms.Term.{Term}
 use Rattle.rdf_terms.specs.declared.terms.Term.TheVariants as terms
@@ -18,6 +20,7 @@ use Rattle.jrql_ast.specs.declared.patterns.PatternTriple.{PatternTriple}
 use Rattle.jrql_ast.specs.FilterMeaning.{side_value}
 use Rattle.jrql_ast.specs.Solutions.{is_same_term, agree, matches_from}
 use Rattle.jrql_eval.specs.Evaluating.{has_parts, iri_known, instance_of, triple_at, iri_of_term}
+use Rattle.jrql_ast.proofs.Rearranging.{by_neighbours}
 use Rattle.jrql_ast.proofs.BoundSlots.{same_refl, none_some, some_is, agree_if_bound, agree_before_s, agree_before_p, agree_before_o}
 
 -- an option of which no value comes
@@ -38,6 +41,21 @@ module _ {X Y : Type 0} (h : X → Option Y) where
     | inr failed ↦ ap (λ b. filter_map h (cond b (x ∷ filter test xs) (filter test xs))) failed ∙ found_filtered test passes xs
         ∙ sym (ap (λ o. cons_option o (filter_map h xs)) (none_unless (h x) (λ y e. true≢false (sym (passes x y e) ∙ failed))))
   ]
+
+  -- and in another order the same comes, in another order
+  pub found_permuted : (xs ys : List X) → IsPermutation xs ys → IsPermutation (filter_map h xs) (filter_map h ys)
+  found_permuted xs ys moved =
+      by_neighbours (λ l m. IsPermutation (filter_map h l) (filter_map h m)) (λ l. IsPermutation-refl (filter_map h l)) (λ l m n. IsPermutation-trans _ _ _)
+      (λ x l m e. more (h x) (filter_map h l) (filter_map h m) e) (λ x y l. two (h x) (h y) (filter_map h l)) xs ys moved
+    where
+      more : (o : Option Y) (l m : List Y) → IsPermutation l m → IsPermutation (cons_option o l) (cons_option o m)
+      more None l m e = e
+      more (Some y) l m e = IsPermutation-cons y l m e
+
+      two : (o p : Option Y) (l : List Y) → IsPermutation (cons_option o (cons_option p l)) (cons_option p (cons_option o l))
+      two None p l = IsPermutation-refl _
+      two (Some y) None l = IsPermutation-refl _
+      two (Some y) (Some z) l = IsPermutation-append_left l (y ∷ z ∷ []) (z ∷ y ∷ []) (IsPermutation-append_comm (y ∷ []) (z ∷ []))
 
   -- one alone of which something comes
   pub one_found : (R : X → X → Ordering) → IsTotalOrder R → (t : X) (y : Y) → h t ≡ Some y → ((x : X) → ((x ≡ t) → ⊥) → h x ≡ None)

@@ -1,11 +1,11 @@
--- The triples of the pairs that match, put in order, are those of the present triples that match.
-use Rattle.std.proofs.Common.{◌≡◌, ◌∙◌, ℕ, zero, suc, ◌+◌, ◌↔◌, List, [], ◌∷◌, Bool, true, false, cond, Option, None, Some, if◌then◌else◌, true≢false, get_or, map, filter, filter_map, IsTrue, refl, sym, ap, subst, inl, inr, arith}
+-- The triples of the pairs that match, each once, are those of the present triples that match.
+use Rattle.std.proofs.Common.{◌≡◌, ◌∙◌, ℕ, ◌↔◌, List, [], ◌∷◌, Bool, true, false, cond, Option, None, Some, if◌then◌else◌, true≢false, map, filter, filter_map, IsTrue, refl, sym, ap, subst}
 use Rattle.std.specs.Cmp.{IsTotalOrder}
 use Rattle.std.specs.List.{dedup, dedup_from}
-use Rattle.std.specs.List.Sorted.{IsPermutation, IsSorted, IsSortedBy}
+use Rattle.std.specs.List.Sorted.{IsPermutation, IsSortedBy}
 use Rattle.std.specs.Ordering.{is_lt, eq_by_cmp}
 use Rattle.std.specs.declared.cmp.Ordering.{Ordering}
-use Rattle.std.proofs.lemmas.List.Sorted.{IsPermutation-map}
+use Rattle.std.proofs.lemmas.List.Sorted.{IsPermutation-map, IsPermutation-refl}
 use Rattle.std.proofs.lemmas.Map.Lookups.{CmpEqualImpliesEq}
 use Rattle.rdf_terms.specs.declared.terms.Term.{Term}
 use Rattle.rdf_terms.specs.declared.terms.Triple.{Triple}
@@ -16,41 +16,22 @@ use Rattle.mld_ops.specs.declared.tagged.Tagged.{Tagged}
 use Rattle.mld_ops.specs.InOrder.{IsPutInOrder}
 use Rattle.mld_ops.specs.Present.{present}
 use Rattle.mld_ops.specs.Tagged.{tagged_cmp}
-use Rattle.mld_ops.proofs.AscendingLaws.{has_filter, ascending_filter, same_ascending}
-use Rattle.mld_ops.proofs.Keeping.{sorted_in_order}
+use Rattle.mld_ops.proofs.AscendingLaws.{has_filter, ascending_filter, sorted_from_ascending}
+use Rattle.mld_ops.proofs.Keeping.{once_members, sorted_in_order}
 use Rattle.mld_ops.proofs.PresentLaws.{has_present, present_ascends}
-use Rattle.graph_index.specs.Matching.{FindsEach, HasTriple, matches}
+use Rattle.graph_index.specs.Matching.{FindsEach, HasTriple, StandTogether, matches}
+use Rattle.graph_index.proofs.Sorting.{has_image, image_has, view_sorted}
 use Rattle.jrql_ast.specs.declared.patterns.PatternTriple.{PatternTriple}
+use Rattle.jrql_ast.specs.QueryAnswers.{IsSortingOf}
 use Rattle.jrql_ast.specs.Solutions.{agree}
+use Rattle.jrql_ast.proofs.Sortings.{one_sorting}
 use Rattle.jrql_eval.specs.Evaluating.{IsBoundIn, has_parts, instance_of}
+use Rattle.jrql_eval.proofs.BranchLaws.{sorting_of}
+use Rattle.jrql_eval.proofs.EachOnce.{neighbours_once, once_ascending, once_permutes}
 use Rattle.jrql_eval.proofs.Scanned.{there, absent, no_triple}
-
--- the members of a list of images
-pub has_image : {X Y : Type 0} (f : X → Y) (xs : List X) (x : X) → Has xs x → Has (map f xs) (f x)
-has_image f [] x h = absurd h
-has_image f (y ∷ xs) x (inl e) = inl (ap f e)
-has_image f (y ∷ xs) x (inr h) = inr (has_image f xs x h)
-
-pub image_has : {X Y : Type 0} (f : X → Y) (xs : List X) (y : Y) → Has (map f xs) y → (x : X) × Has xs x × (f x ≡ y)
-image_has f [] y h = absurd h
-image_has f (x ∷ xs) y (inl e) = (x, inl refl, e)
-image_has f (x ∷ xs) y (inr h) = let i = image_has f xs y h in (i.0, inr i.1, i.2)
 
 -- a list that is sorted by a part of each element, and then has each part once
 module _ {X Y : Type 0} (f : X → Y) (order : Y → Y → Ordering) where
-  rest_sorted : (x : X) (xs : List X) → IsSortedBy (λ a b. is_lt (order (f a) (f b))) (x ∷ xs) → IsSortedBy (λ a b. is_lt (order (f a) (f b))) xs
-  rest_sorted x xs h k d l g =
-      let e : suc k + 1 ≡ suc (k + 1) = omega arith in
-      subst (λ n. is_lt (order (f (get_or (x ∷ xs) n d)) (f (get_or xs k d))) ≡ false) e (h (suc k) d (omega arith) (omega (arith, g)))
-
-  pub view_sorted : (xs : List X) → IsSortedBy (λ a b. is_lt (order (f a) (f b))) xs → IsSorted order (map f xs)
-  view_sorted [] h k d l g = absurd (omega (arith, g))
-  view_sorted (x ∷ []) h k d l g = absurd (omega (arith, g))
-  view_sorted (x ∷ y ∷ xs) h zero d l g = h zero x (omega arith) (omega arith)
-  view_sorted (x ∷ y ∷ xs) h (suc k) d l g =
-      let e : suc k + 1 ≡ suc (k + 1) = omega arith in
-      rw e (view_sorted (y ∷ xs) (rest_sorted x (y ∷ xs) h) k d (omega arith) (omega (arith, g)))
-
   view_from : (same : Y → Y → Bool) (k : X) (xs : List X) → map f (dedup_from (λ a b. same (f a) (f b)) k xs) ≡ dedup_from same (f k) (map f xs)
   view_from same k [] = refl
   view_from same k (x ∷ xs) = by (same (f x) (f k)) (view_from same k xs) (view_from same x xs)
@@ -70,7 +51,7 @@ module _ {X Y : Type 0} (f : X → Y) (order : Y → Y → Ordering) where
   pub view_in_order : IsTotalOrder order → CmpEqualImpliesEq order → (given sorted kept : List X) → IsPermutation given sorted
       → IsSortedBy (λ a b. is_lt (order (f a) (f b))) sorted → kept ≡ dedup (λ a b. eq_by_cmp order (f a) (f b)) sorted → IsPutInOrder order (map f given) (map f kept)
   view_in_order total exact given sorted kept moved up once =
-      sorted_in_order order total exact (map f given) (map f sorted) (map f kept) (IsPermutation-map f given sorted moved) (view_sorted sorted up)
+      sorted_in_order order total exact (map f given) (map f sorted) (map f kept) (IsPermutation-map f given sorted moved) (view_sorted f order sorted up)
       (ap (map f) once ∙ view_dedup (eq_by_cmp order) sorted)
 
 -- the triples of the pairs that match, in order, are the present ones that match
@@ -92,12 +73,25 @@ module _ (pairs found : List Tagged) (s p : Option (List ℕ)) (o : Option Term)
       (has_image (λ (pair : Tagged). pair.triple) found q.pair
       ((each.members q.pair).1 (q.stands, subst (λ (t : Triple). has_parts s p o t ≡ true) (sym q.is) f.1)))
 
-  pub scanned_is : (kept : List Triple) → IsPutInOrder triple_cmp (map (λ (pair : Tagged). pair.triple) found) kept → kept ≡ filter (has_parts s p o) (present pairs)
-  scanned_is kept put =
-      same_ascending triple_cmp triple_total triple_exact kept (filter (has_parts s p o) (present pairs)) put.ascending
-      (ascending_filter triple_cmp (has_parts s p o) (present pairs) (present_ascends pairs ascending))
-      (λ triple h. of_found triple ((put.members triple).0 h))
-      (λ triple h. (put.members triple).1 (is_found triple h))
+  -- each once, in whatever order
+  pub scanned_are : StandTogether (λ (pair : Tagged). pair.triple) found → (kept : List Triple) → kept ≡ dedup (eq_by_cmp triple_cmp) (map (λ (pair : Tagged). pair.triple) found)
+      → IsPermutation (filter (has_parts s p o) (present pairs)) kept
+  scanned_are together kept e =
+      let triples = map (λ (pair : Tagged). pair.triple) found in
+      subst (IsPermutation (filter (has_parts s p o) (present pairs))) (sym e)
+      (once_permutes (filter (has_parts s p o) (present pairs)) (dedup (eq_by_cmp triple_cmp) triples)
+      (once_ascending triple_cmp triple_total (filter (has_parts s p o) (present pairs)) (ascending_filter triple_cmp (has_parts s p o) (present pairs) (present_ascends pairs ascending)))
+      (neighbours_once (λ (pair : Tagged). pair.triple) triple_cmp triple_total triple_exact found together)
+      (λ triple h. (once_members triple_cmp triple_total triple_exact triples triple).1 (is_found triple h))
+      (λ triple h. of_found triple ((once_members triple_cmp triple_total triple_exact triples triple).0 h)))
+
+-- what is found, sorted, is what matches, in order
+pub sorted_found : (test : Triple → Bool) (graph given sorted : List Triple) → IsAscending triple_cmp graph → IsPermutation (filter test graph) given → IsSortingOf triple_cmp given sorted
+    → sorted ≡ filter test graph
+sorted_found test graph given sorted a moved s =
+    one_sorting triple_cmp triple_total (λ x. Unit {0}) (λ x y h k e. triple_exact x y e) (filter test graph) sorted (filter test graph) (λ k d l. tt)
+    (sorting_of triple_cmp (filter test graph) given sorted moved s)
+    (record { same = IsPermutation-refl (filter test graph); ascending = sorted_from_ascending triple_cmp triple_total (filter test graph) (ascending_filter triple_cmp test graph a) })
 
 -- a triple that some pair has is present
 pub present_from_pair : (pairs : List Tagged) (triple : Triple) → HasTriple pairs triple → Has (present pairs) triple

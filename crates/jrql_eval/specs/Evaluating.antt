@@ -1,25 +1,35 @@
 -- How the solutions of a group are found: patterns in the order of a plan, and what is known of their places.
 -- The private calls that match patterns cite it.
-use Rattle.std.specs.Prelude.{◌≡◌, ℕ, List, [], ◌∷◌, ◌++◌, Bool, true, false, ◌&&◌, Option, None, Some, map}
-use Rattle.std.specs.List.{filter, list_all, All}
+use Rattle.std.specs.Borrow.{Bor}
+use Rattle.std.specs.Prelude.{◌≡◌, ℕ, List, [], ◌∷◌, ◌++◌, Bool, true, false, ◌&&◌, Option, None, Some, length, map}
+use Rattle.std.specs.List.{filter, list_all, slice_set, All}
+use Rattle.std.specs.Option.{option_map_or, option_zip}
+use Rattle.tree_clock.specs.Lists.{Has}
 use Rattle.rdf_terms.specs.declared.terms.Term.{Term}
 use Rattle.rdf_terms.specs.declared.terms.Term.TheVariants as terms
 use Rattle.rdf_terms.specs.declared.terms.Triple.{Triple}
 use Rattle.graph_index.specs.Matching.{has_iri, is_term}
 use Rattle.jrql_ast.specs.declared.patterns.Filter.{Filter}
+pub use Rattle.jrql_filters.specs.FilteredRows.{all_hold, can_hold, all_can_hold}
 use Rattle.jrql_ast.specs.declared.patterns.PatternTriple.{PatternTriple}
-use Rattle.jrql_ast.specs.FilterMeaning.{side_value, holds}
-use Rattle.jrql_ast.specs.Solutions.{agree, matches_from}
+use Rattle.jrql_ast.specs.FilterMeaning.{compares_so, side_value, holds}
+use Rattle.jrql_ast.specs.Solutions.{agree, matches_from, value_of}
 use Rattle.jrql_eval.specs.declared.plans.Stage.{Stage}
-
--- all filters hold of the row
-abbrev pub all_hold : List Filter → List (Option Term) → Bool
-all_hold filters row = list_all (λ filter. holds filter row) filters
 
 -- what becomes of a row where something is bound in it: it agrees, and is then this row, or it doesn't
 abbrev pub IsBinding : Option (List (Option Term)) → Bool → List (Option Term) → Type 0
 IsBinding None agreed row = agreed ≡ false
 IsBinding (Some bound) agreed row = (agreed ≡ true) × (row ≡ bound)
+
+-- a row in which what is bound in another has its value
+pub record Extends (row next : List (Option Term)) : Type 0 where
+  pub places : length next ≡ length row
+  pub each : (variable : ℕ) (x : Term) → value_of variable row ≡ Some x → value_of variable next ≡ Some x
+
+-- the row once a variable is unbound, where it has no value elsewhere
+abbrev pub unbound_as : Option Term → ℕ → List (Option Term) → List (Option Term)
+unbound_as None variable row = slice_set row variable None
+unbound_as (Some x) variable row = row
 
 -- the triple has the parts that are given
 abbrev pub has_parts : Option (List ℕ) → Option (List ℕ) → Option Term → Triple → Bool
@@ -72,6 +82,18 @@ AreReady [] row = Unit {0}
 AreReady (stage ∷ stages) row =
     (triple : Triple) (next : List (Option Term)) → agree stage.pattern.now triple row ≡ Some next
     → All (λ pattern. IsBoundIn next pattern.now) stage.checks.items × AreReady stages next
+
+-- each stage tests filters of these alone
+abbrev pub AreTestsOf : List Filter → List Stage → Type 0
+AreTestsOf filters [] = Unit {0}
+AreTestsOf filters (stage ∷ stages) = All (λ test. Has filters test.now) stage.tests.items × AreTestsOf filters stages
+
+-- in the row of a stage's pattern what the stage checks is bound, its tests are filters of these, and so on behind it
+pub record IsReadyBehind (filters : List Filter) (stage : Stage) (stages : List Stage) (row : List (Option Term)) : Type 0 where
+  pub checks : All (λ pattern. IsBoundIn row pattern.now) stage.checks.items
+  pub tests : All (λ test. Has filters test.now) stage.tests.items
+  pub ready : AreReady stages row
+  pub tested : AreTestsOf filters stages
 
 -- the rows to which stages lead from a row, and for which all filters hold
 abbrev pub led_to : List Triple → List Filter → List Stage → List (Option Term) → List (List (Option Term))

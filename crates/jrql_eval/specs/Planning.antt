@@ -4,6 +4,7 @@ use Rattle.std.specs.Prelude.{◌≡◌, ℕ, ◌+◌, ◌<◌, ◌≤◌, not, 
 use Rattle.std.specs.Int.{from_bool}
 use Rattle.std.specs.List.{All, filter, remove, slice_index_or, slice_set}
 use Rattle.std.specs.List.Sorted.{IsPermutation}
+use Rattle.jrql_ast.specs.declared.patterns.Filter.{Filter}
 use Rattle.jrql_ast.specs.declared.patterns.PatternTriple.{PatternTriple}
 use Rattle.jrql_ast.specs.declared.patterns.Slot.{Slot}
 use Rattle.jrql_ast.specs.declared.patterns.Slot.TheVariants as slots
@@ -22,10 +23,19 @@ is_bound_slot bound (slots.Fresh subject) = true
 abbrev pub is_whole : List Bool → PatternTriple → Bool
 is_whole bound pattern = is_bound_slot bound pattern.s && (is_bound_slot bound pattern.p && is_bound_slot bound pattern.o)
 
+-- both sides of a filter are bound
+abbrev pub is_closed : List Bool → Filter → Bool
+is_closed bound test = is_bound_slot bound test.left && is_bound_slot bound test.right
+
 -- how many places of a pattern are bound
 abbrev pub places_bound : List Bool → PatternTriple → ℕ
 places_bound bound pattern =
     from_bool (is_bound_slot bound pattern.s) + from_bool (is_bound_slot bound pattern.p) + from_bool (is_bound_slot bound pattern.o)
+
+-- a list of which these members pass a test, and these don't
+pub record AreSortedOut {X : Type 0} (passes : X → Bool) (all passed others : List X) : Type 0 where
+  pub those : passed ≡ filter passes all
+  pub left : others ≡ filter (λ x. not (passes x)) all
 
 -- the first member with the most of what is counted stands at this place
 pub record IsFirstMost {X : Type 0} (count : X → ℕ) (items : List X) (place : ℕ) : Type 0 where

@@ -5,19 +5,19 @@ ghost use Rattle.std.specs.Option.{option_copied, option_to_list};
 ghost use Rattle.mld_ops.specs.InOrder.{IsPutInOrder};
 ghost use Rattle.mld_ops.specs.Present.{present};
 ghost use Rattle.mld_ops.specs.Tagged.{tagged_cmp};
-ghost use Rattle.rdf_terms.specs.Order.{iri_cmp};
+ghost use Rattle.rdf_terms.specs.Order.{iri_cmp, triple_cmp};
 ghost use Rattle.jrql_ast.specs.InForm.{IsQueryInForm};
-ghost use Rattle.jrql_ast.specs.QueryAnswers.{IsAnswer, found, solution_limit};
+ghost use Rattle.jrql_ast.specs.QueryAnswers.{IsAnswer, IsSortingOf, found, solution_limit};
 ghost use Rattle.tree_clock.specs.Lists.{IsAscending};
 ghost use Rattle.jrql_eval.specs.Asked.{AsksSubjects, IsDescribedBy, all_targeted, bound_iris, described_by, described_where};
 
 use crate::faults::EvalFault;
-use crate::rows::value_at;
 use crate::scanning::{iri_of, triples_with};
 use crate::solving::find_rows;
 use graph_index::Graph;
 use jrql_ast::{Answer, Described, Query, Row, Sequence, Target, What};
-use rdf_terms::{Iri, Triple, cmp_iris};
+use jrql_filters::value_at;
+use rdf_terms::{Iri, Triple, cmp_iris, cmp_triples};
 use std::alloc::{AllocError, Global};
 
 // Adds an IRI, where there is one.
@@ -72,6 +72,13 @@ fn put_iris(iris: &mut Vec<&Iri>)
     iris.dedup_by(|iri, other| cmp_iris(*iri, *other).is_eq());
 }
 
+// Sorts triples.
+fn sort_triples(triples: &mut Vec<&Triple>)
+    ensures { IsSortingOf triple_cmp (map (λ x. x.now) triples.old.items) (map (λ x. x.now) triples.new.items) }
+{
+    triples.sort_unstable_by(|triple, other| cmp_triples(*triple, *other));
+}
+
 // Copies of triples.
 fn copy_triples(alloc: Global, triples: &[&Triple]) -> Result<Vec<Triple>, AllocError>
     ensures { IfOk result (λ copies. copies.items ≡ map (λ x. x.now) triples.now) }
@@ -113,7 +120,8 @@ fn add_described(
         (subjects.new.items ≡ subjects.old.items ++ described_where (present graph.now.pairs) iri.now) }
     ensures ascending { IsAscending tagged_cmp graph.now.pairs }
 {
-    let triples = triples_with(alloc, graph, Some(iri), None, None)?;
+    let mut triples = triples_with(alloc, graph, Some(iri), None, None)?;
+    sort_triples(&mut triples);
     add_subject(alloc, iri, &triples, subjects)
 }
 

@@ -6,7 +6,6 @@ mod columns;
 mod describing;
 mod effects;
 mod faults;
-mod filters;
 mod limits;
 mod plans;
 mod rows;

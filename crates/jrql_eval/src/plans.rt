@@ -1,11 +1,13 @@
 //! In which order patterns are matched.
 ghost use Rattle.std.specs.Prelude.{◌≡◌, ◌+◌, ◌<◌, ◌≤◌, ◌++◌, false, not, length, map, replicate, IfOk, OnOk, vec_len};
-ghost use Rattle.std.specs.List.{All, filter};
+ghost use Rattle.std.specs.List.{All, filter, slice_index_or};
+ghost use Rattle.tree_clock.specs.Lists.{Has};
 ghost use Rattle.jrql_ast.specs.declared.patterns.PatternTriple.{PatternTriple};
 ghost use Rattle.jrql_ast.specs.InForm.{IsSlotWithin, IsPatternWithin};
-ghost use Rattle.jrql_eval.specs.Planning.{is_bound_slot, is_whole, places_bound, IsFirstMost, bound_with, bound_behind, IsPlanFor, IsTakenStage};
+ghost use Rattle.jrql_eval.specs.Evaluating.{AreTestsOf};
+ghost use Rattle.jrql_eval.specs.Planning.{is_bound_slot, is_closed, is_whole, places_bound, IsFirstMost, AreSortedOut, bound_with, bound_behind, IsPlanFor, IsTakenStage};
 
-use jrql_ast::{PatternTriple, Slot};
+use jrql_ast::{Filter, PatternTriple, Slot};
 use std::alloc::{AllocError, Global};
 
 /// A pattern whose triples are gone over, with those that are wholly bound once it is a triple.
@@ -15,6 +17,8 @@ pub(crate) struct Stage<'a> {
     pub(crate) pattern: &'a PatternTriple,
     /// The patterns that are wholly bound then.
     pub(crate) checks: Vec<&'a PatternTriple>,
+    /// The filters of which both sides are bound then, and weren't before.
+    pub(crate) tests: Vec<&'a Filter>,
 }
 
 /// In which order patterns are matched.
@@ -22,20 +26,39 @@ pub(crate) struct Stage<'a> {
 pub(crate) struct Plan<'a> {
     /// The patterns without variables.
     pub(crate) checks: Vec<&'a PatternTriple>,
+    /// The filters without variables.
+    pub(crate) tests: Vec<&'a Filter>,
     /// The stages, each of which binds a variable.
     pub(crate) stages: Vec<Stage<'a>>,
 }
 
+// Whether a variable is bound.
+fn is_marked(variable: usize, bound: &[bool]) -> bool
+    ensures { result ≡ slice_index_or bound.now variable false }
+{
+    if variable < bound.len() {
+        bound[variable]
+    } else {
+        false
+    }
+}
+
 // Whether a slot is bound, where these variables are.
 fn is_bound(slot: &Slot, bound: &[bool]) -> bool
-    requires { IsSlotWithin (length bound.now) 0 slot.now }
     ensures { result ≡ is_bound_slot bound.now slot.now }
 {
     match slot {
         Slot::Term(_) => true,
-        Slot::Var(variable) => bound[*variable as usize],
+        Slot::Var(variable) => is_marked(*variable as usize, bound),
         Slot::Fresh(_) => true,
     }
+}
+
+// Whether both sides of a filter are bound.
+fn is_closed(filter: &Filter, bound: &[bool]) -> bool
+    ensures { result ≡ is_closed bound.now filter.now }
+{
+    is_bound(&filter.left, bound) && is_bound(&filter.right, bound)
 }
 
 // Whether all places of a pattern are bound.
@@ -115,6 +138,38 @@ fn others_of<'a>(
     Ok(others)
 }
 
+// The filters as they stand.
+fn all_filters<'a>(alloc: Global, filters: &'a [Filter]) -> Result<Vec<&'a Filter>, AllocError>
+    ensures { IfOk result (λ all. map (λ x. x.now) all.items ≡ filters.now) }
+{
+    let mut all = Vec::with_capacity(alloc, filters.len())?;
+    for filter in filters {
+        all.push(filter)?;
+    }
+    Ok(all)
+}
+
+// Takes out the filters of which both sides are bound.
+fn take_closed<'a>(
+    alloc: Global,
+    open: &mut Vec<&'a Filter>,
+    bound: &[bool],
+) -> Result<Vec<&'a Filter>, AllocError>
+    ensures { IfOk result (λ closed. AreSortedOut (λ test. is_closed bound.now test.now) open.old.items closed.items open.new.items) }
+{
+    let mut closed = Vec::new(alloc);
+    let mut others = Vec::new(alloc);
+    for test in open.as_slice() {
+        if is_closed(test, bound) {
+            closed.push(*test)?;
+        } else {
+            others.push(*test)?;
+        }
+    }
+    *open = others;
+    Ok(closed)
+}
+
 // The place of the first pattern with the most bound places.
 fn best_place(left: &[&PatternTriple], bound: &[bool]) -> usize
     requires some { 0 < length left.now }
@@ -175,39 +230,57 @@ fn all_patterns<'a>(
 fn take_stage<'a>(
     alloc: Global,
     left: &mut Vec<&'a PatternTriple>,
+    open: &mut Vec<&'a Filter>,
     bound: &mut Vec<bool>,
 ) -> Result<Stage<'a>, AllocError>
     requires some { 0 < length left.old.items }
     requires within { All (λ pattern. IsPatternWithin (length bound.old.items) 0 pattern.now) left.old.items }
-    ensures { IfOk result (λ stage. IsTakenStage left.old.items bound.old.items stage left.new.items bound.new.items) }
+    ensures stage { IfOk result (λ stage. IsTakenStage left.old.items bound.old.items stage left.new.items bound.new.items) }
+    ensures tests { IfOk result (λ stage.
+        AreSortedOut (λ test. is_closed bound.new.items test.now) open.old.items stage.tests.items open.new.items) }
 {
     let place = best_place(left, bound);
     let pattern = left.remove(place);
     mark(pattern, bound);
     let checks = whole_of(alloc, left, bound)?;
     let others = others_of(alloc, left, bound)?;
+    let tests = take_closed(alloc, open, bound)?;
     *left = others;
-    Ok(Stage { pattern, checks })
+    Ok(Stage {
+        pattern,
+        checks,
+        tests,
+    })
 }
 
-/// The order in which the patterns of a group and those of a branch are matched: each stage is the one that `take_stage` takes.
+/// The order in which the patterns of a group and those of a branch are matched, and its filters tested: each stage is the one that
+/// `take_stage` takes.
 pub(crate) fn plan_of<'a>(
     alloc: Global,
     patterns: &'a [PatternTriple],
     branch: &'a [PatternTriple],
+    filters: &'a [Filter],
     variables: usize,
 ) -> Result<Plan<'a>, AllocError>
     requires patterns { All (IsPatternWithin variables 0) patterns.now }
     requires branch { All (IsPatternWithin variables 0) branch.now }
-    ensures { IfOk result (IsPlanFor (patterns.now ++ branch.now) variables) }
+    ensures patterns { IfOk result (IsPlanFor (patterns.now ++ branch.now) variables) }
+    ensures tests { IfOk result (λ plan. All (λ test. Has filters.now test.now) plan.tests.items) }
+    ensures staged { IfOk result (λ plan. AreTestsOf filters.now plan.stages.items) }
 {
     let given = all_patterns(alloc, patterns, branch)?;
     let mut bound = none_bound(alloc, variables)?;
     let checks = whole_of(alloc, &given, &bound)?;
     let mut left = others_of(alloc, &given, &bound)?;
+    let mut open = all_filters(alloc, filters)?;
+    let tests = take_closed(alloc, &mut open, &bound)?;
     let mut stages = Vec::new(alloc);
     'planning: while !left.is_empty() {
-        stages.push(take_stage(alloc, &mut left, &mut bound)?)?;
+        stages.push(take_stage(alloc, &mut left, &mut open, &mut bound)?)?;
     }
-    Ok(Plan { checks, stages })
+    Ok(Plan {
+        checks,
+        tests,
+        stages,
+    })
 }

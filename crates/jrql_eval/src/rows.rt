@@ -6,6 +6,7 @@ ghost use Rattle.jrql_ast.specs.QueryAnswers.{place_cmp, project, reply_place_cm
 ghost use Rattle.jrql_ast.specs.Solutions.{value_of};
 
 use jrql_ast::Row;
+use jrql_filters::value_at;
 use rdf_terms::{Term, cmp_reply};
 use std::alloc::{AllocError, Global};
 use std::cmp::Ordering;
@@ -19,17 +20,6 @@ pub(crate) fn unbound_row(alloc: Global, variables: usize) -> Result<Vec<Option<
         row.push(None)?;
     }
     Ok(row)
-}
-
-/// What a row has for a variable, where it is bound.
-pub(crate) fn value_at(variable: usize, row: &[Option<Term>]) -> Option<&Term>
-    ensures { option_copied result ≡ value_of variable row.now }
-{
-    if variable < row.len() {
-        row[variable].as_ref()
-    } else {
-        None
-    }
 }
 
 /// A copy of a value, which shares the texts of its term.

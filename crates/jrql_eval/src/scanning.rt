@@ -1,9 +1,10 @@
 //! Which triples of a graph a pattern may be.
 ghost use Rattle.std.specs.Prelude.{◌≡◌, ◌∷◌, ◌++◌, [], ◌<◌, List, IfOk, map, if◌then◌else◌};
-ghost use Rattle.std.specs.List.{All, filter, filter_map};
+ghost use Rattle.std.specs.List.{All, dedup, filter, filter_map};
+ghost use Rattle.std.specs.List.Sorted.{IsPermutation};
 ghost use Rattle.std.specs.Option.{option_copied, option_map};
-ghost use Rattle.graph_index.specs.Matching.{FindsEach, matches};
-ghost use Rattle.mld_ops.specs.InOrder.{IsPutInOrder};
+ghost use Rattle.std.specs.Ordering.{eq_by_cmp};
+ghost use Rattle.graph_index.specs.Matching.{FindsEach, StandTogether, matches};
 ghost use Rattle.mld_ops.specs.Present.{present};
 ghost use Rattle.mld_ops.specs.Tagged.{tagged_cmp};
 ghost use Rattle.tree_clock.specs.Lists.{IsAscending};
@@ -14,9 +15,9 @@ ghost use Rattle.jrql_ast.specs.FilterMeaning.{side_value};
 ghost use Rattle.jrql_ast.specs.Solutions.{agree, matches_from};
 ghost use Rattle.jrql_eval.specs.Evaluating.{IsBoundIn, has_parts, instance_of, iri_known, iri_of_term};
 
-use crate::binding::term_at;
 use graph_index::{Graph, Steps};
 use jrql_ast::{PatternTriple, Slot};
+use jrql_filters::term_at;
 use mld_ops::Tagged;
 use rdf_terms::{Iri, Term, Triple, cmp_triples};
 use std::alloc::{AllocError, Global};
@@ -37,6 +38,7 @@ fn pairs_in<'a, L: Ledger>(
     requires some { 0 < L.parts }
     ensures found { IfOk result (λ found. FindsEach (matches (option_copied s.entry) (option_copied p.entry)
         (option_copied o.entry)) graph.now.pairs (map (λ x. x.now) found.items)) }
+    ensures together { IfOk result (λ found. StandTogether (λ (pair : Tagged). pair.triple) (map (λ x. x.now) found.items)) }
     ensures ascending { IsAscending tagged_cmp graph.now.pairs }
 {
     let mut steps = Steps::<L>::new(blank);
@@ -48,22 +50,21 @@ fn triples_of<'a>(alloc: Global, pairs: &[&'a Tagged]) -> Result<Vec<&'a Triple>
     ensures { IfOk result (λ triples. map (λ x. x.now) triples.items
         ≡ map (λ (pair : Tagged). pair.triple) (map (λ x. x.now) pairs.now)) }
 {
-    let mut triples = Vec::new(alloc);
+    let mut triples = Vec::with_capacity(alloc, pairs.len())?;
     for pair in pairs {
         triples.push(&pair.triple)?;
     }
     Ok(triples)
 }
 
-// Puts triples in order, each once.
-fn put_in_order(triples: &mut Vec<&Triple>)
-    ensures { IsPutInOrder triple_cmp (map (λ x. x.now) triples.old.items) (map (λ x. x.now) triples.new.items) }
+// Drops each triple that is the one in front of it.
+fn drop_neighbours(triples: &mut Vec<&Triple>)
+    ensures { map (λ x. x.now) triples.new.items ≡ dedup (eq_by_cmp triple_cmp) (map (λ x. x.now) triples.old.items) }
 {
-    triples.sort_unstable_by(|triple, other| cmp_triples(*triple, *other));
     triples.dedup_by(|triple, other| cmp_triples(*triple, *other).is_eq());
 }
 
-/// The triples that have these parts, ascending, each once.
+/// The triples that have these parts, each once, in whatever order.
 pub(crate) fn triples_with<'a>(
     alloc: Global,
     graph: &'a Graph,
@@ -71,14 +72,13 @@ pub(crate) fn triples_with<'a>(
     p: Option<&Iri>,
     o: Option<&Term>,
 ) -> Result<Vec<&'a Triple>, AllocError>
-    ensures triples { IfOk result (λ triples. map (λ x. x.now) triples.items
-        ≡ filter (has_parts (option_copied s.entry) (option_copied p.entry) (option_copied o.entry))
-        (present graph.now.pairs)) }
+    ensures triples { IfOk result (λ triples. IsPermutation (filter (has_parts (option_copied s.entry)
+        (option_copied p.entry) (option_copied o.entry)) (present graph.now.pairs)) (map (λ x. x.now) triples.items)) }
     ensures ascending { IsAscending tagged_cmp graph.now.pairs }
 {
     let pairs = pairs_in::<Brand>(alloc, graph, s, p, o, Blank::new(1))?;
     let mut triples = triples_of(alloc, &pairs)?;
-    put_in_order(&mut triples);
+    drop_neighbours(&mut triples);
     Ok(triples)
 }
 
@@ -93,16 +93,16 @@ fn known_iri<'a>(slot: &'a Slot, row: &'a [Option<Term>]) -> Option<Option<&'a I
     }
 }
 
-/// The triples that a pattern may be in a row, ascending, each once.
+/// The triples that a pattern may be in a row, in whatever order.
 pub(crate) fn triples_for<'a>(
     alloc: Global,
     graph: &'a Graph,
     pattern: &PatternTriple,
     row: &[Option<Term>],
 ) -> Result<Vec<&'a Triple>, AllocError>
-    ensures { IfOk result
-        (λ triples. filter_map (λ triple. agree pattern.now triple row.now) (map (λ x. x.now) triples.items)
-        ≡ filter_map (λ triple. agree pattern.now triple row.now) (present graph.now.pairs)) }
+    ensures { IfOk result (λ triples. IsPermutation
+        (filter_map (λ triple. agree pattern.now triple row.now) (present graph.now.pairs))
+        (filter_map (λ triple. agree pattern.now triple row.now) (map (λ x. x.now) triples.items))) }
 {
     let subject = known_iri(&pattern.s, row);
     let Some(s) = subject else {

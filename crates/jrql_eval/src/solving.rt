@@ -14,6 +14,7 @@ use crate::scanning::are_present;
 use crate::searching::search;
 use graph_index::Graph;
 use jrql_ast::{Group, PatternTriple, Row, Sequence};
+use jrql_filters::all_can_hold;
 use std::alloc::{AllocError, Global};
 
 // How many variables a group has.
@@ -39,8 +40,17 @@ fn add_branch(
         rows.new.items }
 {
     let variables = variables_of(group);
-    let plan = plan_of(alloc, group.patterns.as_slice(), branch, variables)?;
+    let plan = plan_of(
+        alloc,
+        group.patterns.as_slice(),
+        branch,
+        group.filters.as_slice(),
+        variables,
+    )?;
     let start = unbound_row(alloc, variables)?;
+    if !all_can_hold(&plan.tests, &start) {
+        return Ok(());
+    }
     if !are_present(graph, &plan.checks, &start)? {
         return Ok(());
     }

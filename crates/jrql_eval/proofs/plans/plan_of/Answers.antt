@@ -1,5 +1,10 @@
-use Rattle.std.proofs.Common.{◌∙◌, ◌++◌, List, filter, not, sym, subst, eqb-true, arith}
+use Rattle.std.proofs.Common.{◌∙◌, ◌++◌, Bor, List, filter, not, sym, subst, eqb-true, arith}
+use Rattle.std.proofs.lemmas.List.Elements.{All-filter}
+use Rattle.tree_clock.specs.Lists.{Has}
+use Rattle.jrql_ast.specs.declared.patterns.Filter.{Filter}
 use Rattle.jrql_eval.specs.declared.plans.Stage.{Stage}
+use Rattle.jrql_eval.specs.Evaluating.{AreTestsOf}
+use Rattle.jrql_eval.proofs.RefusedRows.{all_members, tests_more}
 use Rattle.jrql_eval.specs.Planning.{is_whole}
 use Rattle.jrql_eval.proofs.PlanSteps.{IsPlanning, checks_bound, none_left, planning_begins, planning_ends, planning_more, within_given, within_marked}
 use Rattle.jrql_eval.proofs.plans.plan_of.Goals as goal
@@ -25,23 +30,30 @@ planning-init c =
           (planning_begins (c.args.patterns.now ++ c.args.branch.now) c.args.variables given c.in_ok-checks.checks.items c.in_ok-left.left.items c.in_ok-bound.bound.items
           c.in_ok-given.ensures c.in_ok-bound.ensures within checks left),
       checks_bound c.args.variables given c.in_ok-checks.checks.items c.in_ok-bound.bound.items c.in_ok-bound.ensures within checks,
+      rw c.in_ok-tests.ensures.those (All-filter _ (λ (t : Bor Filter). Has c.args.filters.now t.now) c.in_ok-open.open.items (all_members c.args.filters.now c.in_ok-open.open.items c.in_ok-open.ensures)),
+      rw c.in_ok-tests.ensures.left (All-filter _ (λ (t : Bor Filter). Has c.args.filters.now t.now) c.in_ok-open.open.items (all_members c.args.filters.now c.in_ok-open.open.items c.in_ok-open.ensures)),
+      subst (AreTestsOf c.args.filters.now) (sym c.new-stages.ensures.items) tt,
     )
 
 pub planning-smaller : goal.planning-smaller
-planning-smaller c = c.in_ok-take_stage.ensures.fewer
+planning-smaller c = c.in_ok-take_stage.ensures.stage.fewer
 
 pub planning-preserved : goal.planning-preserved
 planning-preserved c =
-    let taken = c.in_ok-take_stage.ensures in (
+    let taken = c.in_ok-take_stage.ensures.stage in (
       subst (λ (stages : List Stage). IsPlanning (c.args.patterns.now ++ c.args.branch.now) c.args.variables c.in_ok-checks.checks.items stages c.take_stage.new.bound.items c.take_stage.new.left.items)
           (sym c.in_ok-push.ensures.items)
           (planning_more (c.args.patterns.now ++ c.args.branch.now) c.args.variables c.in_ok-checks.checks.items c.planning.stages.items c.planning.bound.items c.take_stage.new.bound.items
           c.planning.left.items c.take_stage.new.left.items taken.place c.in_ok-take_stage.field-0 taken.there taken.taken taken.marks taken.whole taken.rest c.planning.invariant.0),
       c.planning.invariant.1,
+      c.planning.invariant.2,
+      rw c.in_ok-take_stage.ensures.tests.left (All-filter _ (λ (t : Bor Filter). Has c.args.filters.now t.now) c.planning.open.items c.planning.invariant.3),
+      subst (AreTestsOf c.args.filters.now) (sym c.in_ok-push.ensures.items) (tests_more c.args.filters.now c.planning.stages.items c.in_ok-take_stage.field-0 c.planning.invariant.4
+          (rw c.in_ok-take_stage.ensures.tests.those (All-filter _ (λ (t : Bor Filter). Has c.args.filters.now t.now) c.planning.open.items c.planning.invariant.3))),
     )
 
-pub returns : goal.returns
-returns c =
-    planning_ends (c.args.patterns.now ++ c.args.branch.now) c.args.variables (record { checks = c.in_ok-checks.checks; stages = c.planning.stages }) c.planning.bound.items c.planning.left.items
+pub returns-clause-patterns : goal.returns-clause-patterns
+returns-clause-patterns c =
+    planning_ends (c.args.patterns.now ++ c.args.branch.now) c.args.variables (record { checks = c.in_ok-checks.checks; tests = c.in_ok-tests.tests; stages = c.planning.stages }) c.planning.bound.items c.planning.left.items
     (none_left c.planning.left.items (let e = eqb-true _ 0 (sym c.is_empty.ensures ∙ c.planning-test.false) in omega (arith, e)))
     c.planning.invariant.1 c.planning.invariant.0

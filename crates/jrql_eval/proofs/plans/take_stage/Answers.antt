@@ -23,8 +23,8 @@ others_of-requires c =
     subst (λ (xs : List (Bor PatternTriple)). All (λ p. IsPatternWithin (length c.deref-6.result.now) 0 p.now) xs) (sym c.deref-5.ensures.value)
     (subst (λ (b : List Bool). All (λ p. IsPatternWithin (length b) 0 p.now) c.remove-pattern.new.self.items) (sym c.deref-6.ensures.value) within)
 
-pub returns : goal.returns
-returns c =
+pub returns-clause-stage : goal.returns-clause-stage
+returns-clause-stage c =
     let left = c.args.left.now.items in
     let there = subst (λ (xs : List (Bor PatternTriple)). c.best_place-place.result < length xs) c.deref.ensures.value c.best_place-place.ensures.there in
     let rest = c.in_ok-others.ensures

@@ -5,10 +5,10 @@ ghost use Rattle.std.specs.Str.{all_ascii_digits};
 ghost use Rattle.std.specs.Str.Parse.{without_leading_sign, signed_digits_value};
 ghost use Rattle.rdf_terms.specs.Literal.{datatype_of, has_datatype, lexical_form, is_same, xsd_string, xsd_integer};
 ghost use Rattle.jrql_ast.specs.FilterMeaning.{is_integer_text, number_value, string_of, value_cmp, compares_so, holds};
-ghost use Rattle.jrql_eval.specs.Evaluating.{all_hold};
+ghost use Rattle.jrql_filters.specs.FilteredRows.{all_hold, all_can_hold, can_hold};
 
-use crate::binding::term_at;
 use crate::limits::DIGIT_LIMIT;
+use crate::values::term_at;
 use jrql_ast::{Compare, Filter};
 use rdf_terms::{Literal, Term};
 use std::cmp::Ordering;
@@ -148,11 +148,33 @@ fn holds(filter: &Filter, row: &[Option<Term>]) -> bool
 }
 
 /// Whether all filters hold of a row.
-pub(crate) fn all_hold(filters: &[Filter], row: &[Option<Term>]) -> bool
+pub fn all_hold(filters: &[Filter], row: &[Option<Term>]) -> bool
     ensures { result ≡ all_hold filters.now row.now }
 {
     for filter in filters {
         if !holds(filter, row) {
+            return false;
+        }
+    }
+    true
+}
+
+// Whether a filter may hold behind a row: it does where a side of it isn't bound yet.
+fn can_hold(filter: &Filter, row: &[Option<Term>]) -> bool
+    ensures { result ≡ can_hold filter.now row.now }
+{
+    match (term_at(&filter.left, row), term_at(&filter.right, row)) {
+        (Some(left), Some(right)) => compares_so(filter.op, left, right),
+        _ => true,
+    }
+}
+
+/// Whether all filters may hold behind a row.
+pub fn all_can_hold(filters: &[&Filter], row: &[Option<Term>]) -> bool
+    ensures { result ≡ all_can_hold filters.now row.now }
+{
+    for filter in filters {
+        if !can_hold(filter, row) {
             return false;
         }
     }

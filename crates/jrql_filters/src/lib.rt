@@ -1,0 +1,9 @@
+//! Whether filters hold of a row, or may hold of one that has more values.
+#![tactic(auto)]
+
+mod filters;
+mod limits;
+mod values;
+
+pub use filters::{all_can_hold, all_hold};
+pub use values::{term_at, value_at};
