@@ -2,7 +2,7 @@
 use crate::clones::MldClone;
 use clone_parts::{KeepFault, drop_front, led_to, replace_base, swap_kept, tell_clock};
 use mld_io::Banks;
-use std::alloc::Global;
+use std::alloc::{AllocError, Global};
 
 impl<B: Banks> MldClone<B> {
     ghost use Rattle.std.specs.Prelude.{◌≡◌, ◌<◌, ◌-◌, ◌↔◌, List, length, None, Some, IfOk, IfErr, IsOk, OnOk, IsErrOf};
@@ -16,7 +16,7 @@ impl<B: Banks> MldClone<B> {
     ghost use Rattle.clone_core.specs.CallParts.{StopsClone};
 
     /// Truncates the journal: its last `keep` entries stay, or all where it has fewer, and the clone's base is what the others led to. What
-    /// the banks keep is swapped for that, by one swap. Where the journal has no more entries than that, nothing changes and no device is
+    /// the banks keep is swapped for that, by one swap. Texts that no pair has any more are let go. Where the journal has no more entries than that, nothing changes and no device is
     /// called. Gives the number of entries that the journal has then.
     ///
     /// # Errors
@@ -49,8 +49,34 @@ impl<B: Banks> MldClone<B> {
         if self.is_last_generation() {
             return Err(KeepFault::GenerationsSpent);
         }
-        self.swap_truncated(alloc, keep as usize)?;
+        self.renew_and_swap(alloc, keep as usize)?;
         Ok(keep)
+    }
+
+    // The same as `swap_truncated`, and before it lets texts go that no pair has any more.
+    fn renew_and_swap(&mut self, alloc: Global, keep: usize) -> Result<(), KeepFault>
+        requires opened { self.old.closed ≡ None }
+        requires due { IsDueSwap (keep < length self.old.local.entries) self.old }
+        ensures ok { OnOk result (LocallyTruncates self.old.local keep self.new.local) }
+        ensures opened { OnOk result (IsSwappedOpen self.old self.new) }
+        ensures left { IfErr result (λ fault.
+            StopsClone B.log B.meter (IsDueSwap (keep < length self.old.local.entries) self.old) ⊥ self.old self.new
+            (keep_stop fault)) }
+        ensures durable { (steps : List KeptStep)
+            × KeepSteps (keep < length self.old.local.entries)
+            (LocallyTruncates self.old.local keep) self.new.local result steps
+            × Changes B.log B.meter steps self.old self.new.banks (IsOk result) (IsErrOf result KeepFault.Device) }
+    {
+        self.renew_pairs(alloc)?;
+        self.swap_truncated(alloc, keep)
+    }
+
+    // Makes the clone's graph anew, so that texts go whose pairs are gone. The clone is what it was.
+    fn renew_pairs(&mut self, alloc: Global) -> Result<(), AllocError>
+        ensures { self.new ≡ self.old }
+    {
+        self.pairs = self.pairs.renewed(alloc)?;
+        Ok(())
     }
 
     // Swaps what the banks keep for a journal of the last entries, of which there are more, over what the others led to.

@@ -55,6 +55,11 @@ swap_and_append-requires-clause-ready g c =
     (subst (λ (es : List EntryValue). AreReadyEntries merge.base.ticks es) (sym c.deref.ensures.value)
     (released_ready (local_of c.self.inside) (snapshot_value c.args.snapshot.now) merge c.in_ok-base.ensures))
 
+pub returns-in_err-swap_and_append-clause-ok : goal.returns-in_err-swap_and_append-clause-ok
+returns-in_err-swap_and_append-clause-ok g c =
+    let p = err_from_is_err_and c.from_residual-in_err-swap_and_append.result c.from_residual-in_err-swap_and_append.ensures.1 in
+    rw p.1 tt
+
 pub returns-in_err-swap_and_append-clause-unspent : goal.returns-in_err-swap_and_append-clause-unspent
 returns-in_err-swap_and_append-clause-unspent g c =
     let told = c.in_err-swap_and_append.field-0.0 in
