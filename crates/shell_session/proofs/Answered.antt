@@ -52,6 +52,12 @@ pub given_back : {S B : Type 0} (P : B → Type 0) (result : Result S (SessionFa
 given_back P (Ok next) banks back holds = tt
 given_back P (Err refused) banks back holds = subst P (sym back.1) holds
 
+-- either way it is the session's banks that are there behind it
+pub answered_banks : {B : Type 0} (result : Result (Session B) (SessionFault × B)) (session : Session B) → IfOk result (λ next. next ≡ session)
+    → IfErr result (λ refused. (refused.0 ≡ faults.NoMemory) × (refused.1 ≡ session_banks session)) → banks_after result ≡ session_banks session
+answered_banks (Ok next) session same back = ap session_banks same
+answered_banks (Err refused) session same back = back.1
+
 module _ {B : Type 0} (log : B → Option Log) (banks : B) where
   -- what holds while no clone is live, after a mount that was stopped
   pub mount_refuses : (mid : B) (command : ShellCommand) → ((l : Log) → log banks ≡ Some l → LeavesNothingNew l (log mid))
@@ -127,11 +133,7 @@ module _ {B : Type 0} (log : B → Option Log) (meter : B → Meter) (banks : B)
     (result : Result (Session B) (SessionFault × B)) where
   closed_banks : IfOk result (λ next. next ≡ sessions.Shut banks) → IfErr result (λ refused. (refused.0 ≡ faults.NoMemory) × (refused.1 ≡ banks))
       → banks_after result ≡ banks
-  closed_banks same back = by result same back where
-    by : (r : Result (Session B) (SessionFault × B)) → IfOk r (λ next. next ≡ sessions.Shut banks)
-        → IfErr r (λ refused. (refused.0 ≡ faults.NoMemory) × (refused.1 ≡ banks)) → banks_after r ≡ banks
-    by (Ok next) same' back' = ap (λ (s : Session B). session_banks s) same'
-    by (Err refused) same' back' = back'.1
+  closed_banks same back = answered_banks result (sessions.Shut banks) same back
 
   closed_fine : IfErr result (λ refused. (refused.0 ≡ faults.NoMemory) × (refused.1 ≡ banks)) → ¬ FailsOnDevice result
   closed_fine back = by result back where
