@@ -1,15 +1,16 @@
 -- Places in a list of chunks.
-use Rattle.std.proofs.Common.{◌≡◌, ℕ, ◌+◌, ◌-◌, ◌<◌, ◌≤◌, List, [], ◌∷◌, ◌++◌, Bool, true, false, length, take, drop, suc, zero, refl, sym, subst, ap, ◌∙◌, inl, inr, arith, append_assoc}
+use Rattle.std.proofs.Common.{◌≡◌, ℕ, ◌+◌, ◌-◌, ◌<◌, ◌≤◌, List, [], ◌∷◌, ◌++◌, Bool, true, false, get_or, length, take, drop, suc, zero, refl, sym, subst, ap, ◌∙◌, inl, inr, arith, append_assoc}
+use Rattle.std.proofs.lemmas.Bool.{cases_Bool, true≢false}
 use Rattle.std.specs.List.Sorted.{IsPartitionPoint}
 use Rattle.std.proofs.lemmas.List.{take-append-drop, take_all, drop_all, take_more, append-nil}
 use Rattle.hinted_chunks.specs.tree_clock.Lists.{Has}
-use Rattle.hinted_chunks.proofs.of_mld_ops.AscendingLaws.{has_append, has_left, has_right, within_front, within_back}
+use Rattle.hinted_chunks.proofs.of_mld_ops.AscendingLaws.{has_append, has_at, has_left, has_right, within_front, within_back}
 use Rattle.chunked_list.specs.Joined.{joined_chunks, chunk_at, front_of, back_of}
 use Rattle.hinted_chunks.specs.Hinted.{first_passes}
 use Rattle.chunked_list.proofs.JoinedLaws.{joined_append}
 use Rattle.chunked_list.specs.Parted.{IsParted, Divides}
 use Rattle.chunked_list.specs.Stores.{AreSized}
-use Rattle.chunked_list.proofs.Parting.{parted_before, parted_right, none_passes, head_has, sized_at}
+use Rattle.chunked_list.proofs.Parting.{all_has, parted_before, parted_left, parted_right, none_passes, head_has, sized_at}
 
 -- the list at one of its chunks
 pub at_chunk : {X : Type 0} (chunks : List (List X)) (c : ℕ) → c < length chunks → chunks ≡ take c chunks ++ chunk_at chunks c ∷ drop (c + 1) chunks
@@ -134,3 +135,39 @@ divides_none p [] (suc c) e = record {
   back = λ x k. absurd (subst (λ zs. Has (joined_chunks zs) x) (drop_all (suc c + 1) [] (omega arith)) k);
 }
 divides_none p (x ∷ xs) c e = absurd (omega (arith, e))
+
+-- where the last element passes, all do
+last_passes : {X : Type 0} (p : X → Bool) (xs : List X) (i : ℕ) (d : X) → i + 1 ≡ length xs → IsParted p xs → p (get_or xs i d) ≡ true → (x : X) → Has xs x → p x ≡ true
+last_passes p [] i d e h t x k = absurd k
+last_passes p (y ∷ ys) zero d e h t x (inl q) = subst (λ z. p z ≡ true) q t
+last_passes p (y ∷ []) zero d e h t x (inr k) = absurd k
+last_passes p (y ∷ z ∷ ys) zero d e h t x (inr k) = absurd (omega (arith, e))
+last_passes p (y ∷ ys) (suc i) d e h t x (inl q) = elim (cases_Bool (p y)) [
+  | inl a ↦ subst (λ z. p z ≡ true) q a
+  | inr a ↦ absurd (true≢false (sym t ∙ all_has (λ z. p z ≡ false) ys (get_or ys i d) (h.0 a) (has_at ys i d (omega (arith, e)))))
+]
+last_passes p (y ∷ ys) (suc i) d e h t x (inr k) = last_passes p ys i d (omega (arith, e)) h.1 t x k
+
+pub all_pass : {X : Type 0} (p : X → Bool) (chunks : List (List X)) (c i : ℕ) (d : X) → c + 1 ≡ length chunks → i + 1 ≡ length (chunk_at chunks c) → IsParted p (joined_chunks chunks)
+    → p (get_or (chunk_at chunks c) i d) ≡ true → (x : X) → Has (joined_chunks chunks) x → p x ≡ true
+all_pass p chunks c i d e n h t x k =
+    let front = joined_chunks (take c chunks) in
+    let chunk = chunk_at chunks c in
+    let rest = joined_chunks (drop (c + 1) chunks) in
+    let at = joined_at chunks c (omega (arith, e)) in
+    let parted = subst (IsParted p) at h in
+    elim (has_append front (chunk ++ rest) x (subst (λ zs. Has zs x) at k)) [
+      | inl m ↦ parted_before p front (chunk ++ rest) x (get_or chunk i d) parted (has_left chunk rest (get_or chunk i d) (has_at chunk i d (omega (arith, n)))) t m
+      | inr m ↦ elim (has_append chunk rest x m) [
+        | inl m ↦ last_passes p chunk i d n (parted_left p chunk rest (parted_right p front (chunk ++ rest) parted)) t x m
+        | inr m ↦ absurd (subst (λ zs. Has (joined_chunks zs) x) (drop_all (c + 1) chunks (omega (arith, e))) m)
+      ]
+    ]
+
+-- and the place is behind all
+pub divides_behind : {X : Type 0} (p : X → Bool) (chunks : List (List X)) (c at : ℕ) → front_of chunks c at ≡ joined_chunks chunks → back_of chunks c at ≡ []
+    → ((x : X) → Has (joined_chunks chunks) x → p x ≡ true) → Divides p chunks c at
+divides_behind p chunks c at f b all = record {
+  front = λ x k. all x (subst (λ zs. Has zs x) f k);
+  back = λ x k. absurd (subst (λ zs. Has zs x) b k);
+}

@@ -27,6 +27,9 @@ pub(crate) fn locate<T: Keyed + Drop, B: Bound<T>>(store: &Store<T>, bound: &B) 
     ensures at { result.at ≤ length (chunk_at store.now.chunks.items result.chunk) }
     ensures divides { Divides (B.before bound.now) store.now.chunks.items result.chunk result.at }
 {
+    if is_behind(&store.chunks, bound) {
+        return end_of(&store.chunks);
+    }
     let begun = count_hinted(&store.tops, &store.chunks, &Begun { bound });
     let chunk = begun.saturating_sub(1);
     if chunk < store.chunks.len() {
@@ -34,6 +37,19 @@ pub(crate) fn locate<T: Keyed + Drop, B: Bound<T>>(store: &Store<T>, bound: &B) 
         return Place { chunk, at };
     }
     Place { chunk, at: 0 }
+}
+
+// Whether the last element is before the bound, and so all are. Elements come mostly in order, and such a one needs no search.
+fn is_behind<T: Keyed + Drop, B: Bound<T>>(chunks: &[Chunk<T>], bound: &B) -> bool
+    requires sized { AreSized chunks.now }
+    requires parted { IsParted (B.before bound.now) (joined_chunks chunks.now) }
+    ensures { IsTrue result → (x : T) → Has (joined_chunks chunks.now) x → B.before bound.now x ≡ true }
+{
+    if chunks.is_empty() {
+        return false;
+    }
+    let last = chunks[chunks.len() - 1].as_slice();
+    bound.is_before(&last[last.len() - 1])
 }
 
 /// The place of the first element that is not before the bound.

@@ -41,7 +41,10 @@ pub(crate) fn put_half(starts: &mut Vec<usize>, chunk: usize)
     put_in(starts, chunk + 1, half);
 }
 
-/// The last number that is at most so many, where those from it on are more: it is found by halves.
+// How far from where it is guessed a number is looked for, where it isn't just there.
+const NEAR: usize = 16;
+
+/// The last number that is at most so many, where those from it on are more: it is found by halves, and among chunks of one size at once.
 pub(crate) fn last_at_most(starts: &[usize], count: usize) -> usize
     requires some { 0 < length starts.now }
     requires first { slice_index_or starts.now 0 0 ≤ count }
@@ -49,8 +52,9 @@ pub(crate) fn last_at_most(starts: &[usize], count: usize) -> usize
     ensures most { slice_index_or starts.now result 0 ≤ count }
     ensures next { result + 1 < length starts.now → count < slice_index_or starts.now (result + 1) 0 }
 {
-    let mut low = 0;
-    let mut high = starts.len();
+    let guess = guessed(starts, count);
+    let mut low = low_near(starts, guess, count);
+    let mut high = high_near(starts, guess, count);
     while low + 1 < high {
         let middle = low + (high - low) / 2;
         if starts[middle] <= count {
@@ -60,4 +64,49 @@ pub(crate) fn last_at_most(starts: &[usize], count: usize) -> usize
         }
     }
     low
+}
+
+// Where such a number would stand, if all were as far apart as the first and the last.
+fn guessed(starts: &[usize], count: usize) -> usize
+    requires { 0 < length starts.now }
+    ensures { result < length starts.now }
+{
+    let last = starts.len() - 1;
+    let end = starts[last];
+    if end == 0 {
+        return 0;
+    }
+    (count.wrapping_mul(last) / end).min(last)
+}
+
+// A place not behind a guess, whose number is at most so many: the guess, else one near it, else the first.
+fn low_near(starts: &[usize], guess: usize, count: usize) -> usize
+    requires guess { guess < length starts.now }
+    requires first { slice_index_or starts.now 0 0 ≤ count }
+    ensures guess { result ≤ guess }
+    ensures most { slice_index_or starts.now result 0 ≤ count }
+{
+    if starts[guess] <= count {
+        return guess;
+    }
+    let near = guess.saturating_sub(NEAR);
+    if starts[near] <= count { near } else { 0 }
+}
+
+// A place behind a guess, whose number is more: the next one, else one near it, else the end.
+fn high_near(starts: &[usize], guess: usize, count: usize) -> usize
+    requires guess { guess < length starts.now }
+    ensures guess { guess < result }
+    ensures within { result ≤ length starts.now }
+    ensures next { result < length starts.now → count < slice_index_or starts.now result 0 }
+{
+    let next = guess + 1;
+    if next < starts.len() && count < starts[next] {
+        return next;
+    }
+    let near = guess.saturating_add(NEAR);
+    if near < starts.len() && count < starts[near] {
+        return near;
+    }
+    starts.len()
 }
