@@ -16,3 +16,4 @@ pub mod Pieces
 pub mod Slotting
 pub mod Sorting
 pub mod Together
+pub mod Triples

@@ -52,3 +52,16 @@ begun test before xs from high steps l e wider front = record {
   back = λ k d a b. absurd (omega (arith, e, a, b));
   bound = omega (arith, digits_least (high - from) (length xs) (omega (arith, e)));
 }
+
+-- what is at a place passes too, and so all up to it
+pub one_more : {X : Type 0} (test : X → Bool) (xs : List X) (at : ℕ) → IsPartitionedBy test xs → at < length xs → ((x : X) → test (get_or xs at x) ≡ true)
+    → AllWithin (λ x. test x ≡ true) xs 0 (at + 1)
+one_more test xs at parted l t = λ k d a b. parted k at d (omega (arith, b)) l (t d)
+
+-- what is at a place fails, or nothing is there, and what is in front of it passes: so it divides
+pub stops_at : {X : Type 0} (test : X → Bool) (xs : List X) (at : ℕ) → IsPartitionedBy test xs → AllWithin (λ x. test x ≡ true) xs 0 at
+    → (at < length xs → (x : X) → test (get_or xs at x) ≡ false) → AllWithin (λ x. test x ≡ false) xs at (length xs)
+stops_at test xs at parted front f = λ k d a b. elim (cases_Bool (test (get_or xs k d))) [
+  | inl t ↦ absurd (true≢false (sym (parted at k d a b t) ∙ f (omega (arith, a, b)) d))
+  | inr g ↦ g
+]

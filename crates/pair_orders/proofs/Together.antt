@@ -57,7 +57,7 @@ module _ (shape : Shape) (leads : LeadsByTerms shape) where
       ap (λ w. slice_cmp nat_cmp (leading shape x) w) (same_leading shape leads y x e) ∙ tied_itself nat_list_cmp_total (leading shape x) in
       cc
 
-  keys_together : (keys : List Key) → IsAscending (shape_cmp shape) keys → StandTogether terms_of keys
+  pub keys_together : (keys : List Key) → IsAscending (shape_cmp shape) keys → StandTogether terms_of keys
   keys_together [] a = tt
   keys_together (x ∷ []) a = (inr (λ other h. absurd h), tt)
   keys_together (x ∷ y ∷ keys) a = (
@@ -73,7 +73,7 @@ module _ (shape : Shape) (leads : LeadsByTerms shape) where
 
 -- ---- what stands together after a map does so before it, and the other way round
 
-has_image : {X Y : Type 0} (f : X → Y) (xs : List X) (x : X) → Has xs x → Has (map f xs) (f x)
+pub has_image : {X Y : Type 0} (f : X → Y) (xs : List X) (x : X) → Has xs x → Has (map f xs) (f x)
 has_image f [] x h = absurd h
 has_image f (y ∷ xs) x (inl e) = inl (ap f e)
 has_image f (y ∷ xs) x (inr h) = inr (has_image f xs x h)
@@ -96,7 +96,7 @@ together_mapped f g (x ∷ xs) t = (
   together_mapped f g xs t.1,
 )
 
-mapped_together : {X Y Z : Type 0} (f : X → Y) (g : Y → Z) (xs : List X) → StandTogether g (map f xs) → StandTogether (λ x. g (f x)) xs
+pub mapped_together : {X Y Z : Type 0} (f : X → Y) (g : Y → Z) (xs : List X) → StandTogether g (map f xs) → StandTogether (λ x. g (f x)) xs
 mapped_together f g [] t = tt
 mapped_together f g (x ∷ xs) t = (
   elim t.0 [

@@ -5,3 +5,4 @@ pub mod Orders
 pub mod PairEntries
 pub mod SlotLimit
 pub mod KeptPairs
+pub mod TripleEntries

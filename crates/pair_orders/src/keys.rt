@@ -2,6 +2,7 @@
 ghost use Rattle.std.specs.Prelude.{◌≡◌};
 ghost use Rattle.std.specs.Ordering.{nat_cmp, ordering_then};
 ghost use Rattle.pair_orders.specs.Keys.{slotted_key, key_numbers, ranks, shape_cmp, three_cmp, LeadsIn, LeadsByTerms};
+ghost use Rattle.pair_orders.specs.TripleEntries.{key_terms};
 
 use chunked_list::{Keyed, Order};
 use std::cmp::Ordering;
@@ -19,6 +20,17 @@ pub struct Numbers {
     pub path: u32,
     /// The tick.
     pub tick: u32,
+}
+
+/// The numbers of a triple's terms.
+#[derive(Clone, Copy, PartialEq, Eq)]
+pub struct TermNumbers {
+    /// Of the subject.
+    pub s: u32,
+    /// Of the predicate.
+    pub p: u32,
+    /// Of the object.
+    pub o: u32,
 }
 
 /// Wanted numbers of terms. A place that isn't wanted is none.
@@ -82,6 +94,17 @@ impl Key {
             o: self.o,
             path: self.path,
             tick: self.tick,
+        }
+    }
+
+    /// The numbers of the terms of the pair's triple.
+    pub(crate) fn terms(&self) -> TermNumbers
+        ensures { result ≡ key_terms self.now }
+    {
+        TermNumbers {
+            s: self.s,
+            p: self.p,
+            o: self.o,
         }
     }
 

@@ -16,8 +16,8 @@ mod slots;
 mod steps;
 
 pub use chunked_list;
-pub use keys::{Numbers, Places, Shape};
+pub use keys::{Numbers, Places, Shape, TermNumbers};
 pub use orders::KeyOrder;
 pub use pairs::NumberedPairs;
-pub use searches::search;
+pub use searches::{search, search_triples};
 pub use steps::Steps;

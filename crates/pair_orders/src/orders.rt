@@ -1,11 +1,14 @@
 //! An order of pairs.
-ghost use Rattle.std.specs.Prelude.{◌≡◌, ◌<◌, ◌≤◌, ◌+◌, ◌-◌, map, length, take, drop, IfOk, OnOk};
+ghost use Rattle.std.specs.Prelude.{◌≡◌, ◌<◌, ◌≤◌, ◌+◌, ◌-◌, ◌↔◌, map, length, take, drop, IfOk, OnOk, IsTrue};
 ghost use Rattle.std.specs.List.{slice_index_or};
-ghost use Rattle.pair_orders.specs.Keys.{wanted_then, places_cmp};
+ghost use Rattle.pair_orders.specs.Keys.{wanted_then, places_cmp, LeadsByTerms};
 ghost use Rattle.pair_orders.specs.Orders.{IsOrder};
-ghost use Rattle.pair_orders.specs.PairEntries.{entries_of};
+ghost use Rattle.pair_orders.specs.PairEntries.{StandOnce, StandTogether, entries_of};
+ghost use Rattle.pair_orders.specs.TripleEntries.{IsRepeated, key_terms};
+ghost use Rattle.pair_orders.specs.declared.keys.TermNumbers.{TermNumbers};
+ghost use Rattle.tree_clock.specs.Lists.{Has};
 
-use crate::keys::{Key, Places, Shape};
+use crate::keys::{Key, Places, Shape, TermNumbers};
 use crate::lends::add_pair;
 use crate::steps::Steps;
 use chunked_list::Chunked;
@@ -15,7 +18,7 @@ use std::cmp::Ordering;
 use std::marker::Model;
 use std::sync::ledger::Ledger;
 
-/// An order of pairs. It shows them by two calls alone, and both count their steps.
+/// An order of pairs. It shows them by three calls alone, and all count their steps.
 #[derive(Drop)]
 pub struct KeyOrder<'a> {
     shape: Shape,
@@ -82,6 +85,27 @@ impl<'a> KeyOrder<'a> {
         let keys = self.keys.from_to(alloc, from, to)?;
         lend_pairs(alloc, self.slots, &keys, steps)
     }
+
+    /// The numbers of the terms of the keys from one place to before another, without those of the key in front where
+    /// they are the same. Each key is a step.
+    pub fn triples_between<L: Ledger>(
+        &self,
+        alloc: Global,
+        from: usize,
+        to: usize,
+        steps: &mut Steps<L>,
+    ) -> Result<Vec<TermNumbers>, AllocError>
+        requires from { from ≤ to }
+        requires to { to ≤ length self.now.keys }
+        ensures members { IfOk result (λ found. (terms : TermNumbers) → Has found.items terms
+            ↔ Has (map key_terms (take (to - from) (drop from self.now.keys))) terms) }
+        ensures once { LeadsByTerms self.now.shape → IfOk result (λ found. StandOnce found.items) }
+        ensures step { OnOk result (steps.new ≡ steps.old + (to - from)) }
+        ensures most { steps.new ≤ steps.old + (to - from) }
+    {
+        let lent = self.keys.from_to(alloc, from, to)?;
+        terms_of(alloc, &lent, steps)
+    }
 }
 
 // How wanted places compare with a key, as far as they are wanted from the front.
@@ -138,4 +162,35 @@ fn lend_pairs<'a, L: Ledger>(
         add_pair(&mut found, slots, key)?;
     }
     Ok(found)
+}
+
+// The numbers of the terms of keys, without those that are the same as of the key in front. Each key is a step.
+fn terms_of<L: Ledger>(
+    alloc: Global,
+    keys: &[&Key],
+    steps: &mut Steps<L>,
+) -> Result<Vec<TermNumbers>, AllocError>
+    ensures members { IfOk result (λ found. (terms : TermNumbers) → Has found.items terms
+        ↔ Has (map (λ key. key_terms key.now) keys.now) terms) }
+    ensures once { IfOk result (λ found. StandTogether (λ key. key_terms key.now) keys.now → StandOnce found.items) }
+    ensures step { OnOk result (steps.new ≡ steps.old + length keys.now) }
+    ensures most { steps.new ≤ steps.old + length keys.now }
+{
+    let mut found = Vec::with_capacity(alloc, keys.len())?;
+    for i in 0..keys.len() {
+        steps.tick();
+        if is_repeated(keys, i) {
+            continue;
+        }
+        found.push(keys[i].terms())?;
+    }
+    Ok(found)
+}
+
+// Whether the key at a place has the terms of the one in front of it.
+fn is_repeated(keys: &[&Key], at: usize) -> bool
+    requires { at < length keys.now }
+    ensures { IsTrue result ↔ IsRepeated (λ key. key_terms key.now) keys.now at }
+{
+    at > 0 && keys[at].terms() == keys[at - 1].terms()
 }

@@ -6,17 +6,18 @@ ghost use Rattle.tree_clock.specs.Lists.{Has};
 ghost use Rattle.pair_orders.specs.Keys.{has_places};
 ghost use Rattle.pair_orders.specs.Orders.{binary_digits, entries_with};
 ghost use Rattle.pair_orders.specs.PairEntries.{FindsEntries, StandOnce, HasNumbers, HasTerms, entries_of, is_of_ticks};
+ghost use Rattle.pair_orders.specs.TripleEntries.{FindsTriples};
 ghost use Rattle.pair_orders.specs.declared.keys.Numbers.{Numbers};
 
 use crate::building::{fill_slots, sort_lists};
 use crate::changes::{insert_in, prepare_for, remove_in};
 use crate::finds::{find_slot, has_terms};
 use crate::fronts::{BeforeFront, UpToFront};
-use crate::keys::{Numbers, Places, Shape};
+use crate::keys::{Numbers, Places, Shape, TermNumbers};
 use crate::lends::{lend_chunks, lend_found};
 use crate::lists::{Lists, by_dot, keys_in, no_lists};
 use crate::orders::{KeyOrder, order_of};
-use crate::searches::search;
+use crate::searches::{search, search_triples};
 use crate::slots::{Slots, no_slots};
 use crate::steps::Steps;
 use mld_ops::Tagged;
@@ -168,6 +169,24 @@ impl NumberedPairs {
         // That of an order tells that its keys ascend.
         let _ = order.len();
         search(alloc, &order, wanted, steps)
+    }
+
+    /// The triples of the pairs that have the wanted numbers of terms, by the numbers of all their terms, each once, in
+    /// whatever order. They are found by halves.
+    pub fn triples<L: Ledger>(
+        &self,
+        alloc: Global,
+        wanted: &Places,
+        steps: &mut Steps<L>,
+    ) -> Result<Vec<TermNumbers>, AllocError>
+        ensures found { IfOk result (λ found. FindsTriples (has_places wanted.now) self.now.pairs found.items) }
+        ensures bound { steps.new ≤ steps.old + 2 * binary_digits (length self.now.pairs)
+            + length (entries_with wanted.now self.now.pairs) + 2 }
+        ensures once { StandOnce (map (λ entry. entry.0) self.now.pairs) }
+    {
+        // `len` tells that no two have the same numbers.
+        let _ = self.len();
+        search_triples(alloc, &self.order(wanted.shape()), wanted, steps)
     }
 
     /// The pairs in an order.

@@ -1,7 +1,7 @@
 use Rattle.std.proofs.Common.{◌≤◌, ◌+◌, ◌-◌, length}
 use Rattle.pair_orders.specs.Orders.{binary_digits, is_up_to_places}
 use Rattle.pair_orders.proofs.Narrowing.{IsNarrowed}
-use Rattle.pair_orders.proofs.searches.first_behind.Given as goal
+use Rattle.pair_orders.proofs.searches.behind_by_halves.Given as goal
 
 abbrev pub invariant-loop-low : goal.invariant-loop-low
 invariant-loop-low g l = record {
