@@ -31,19 +31,19 @@ use Rattle.graph_index.specs.Matching.{has_iri, is_term, matches, is_of, is_with
 use Rattle.graph_index.specs.TermNumbers.{TablesValue, AreNumbersOf, HaveOwnNumbers, IsNumbered, iri_number, term_number, path_number, number_given, ArePlaces, LackNumber}
 use Rattle.graph_index.proofs.Numbers.{same_iri, same_term, same_path, same_pair, same_numbers, term_decides}
 use Rattle.graph_index.proofs.Moving.{once_by_numbers}
-use Rattle.graph_index.proofs.Places.{some_injective}
+use Rattle.graph_index.proofs.WantedPlaces.{some_injective}
 use Rattle.graph_index.proofs.Putting.{order_members, order_ascends, order_is, order_count, order_length}
 use Rattle.graph_index.proofs.Sorting.{has_image, image_has}
 
 -- ---- one part: that it is the given one, and that its number is the wanted one
 
-nat_decides : (a b : ℕ) → (nat_eq a b ≡ true → a ≡ b) × (a ≡ b → nat_eq a b ≡ true)
+pub nat_decides : (a b : ℕ) → (nat_eq a b ≡ true → a ≡ b) × (a ≡ b → nat_eq a b ≡ true)
 nat_decides a b = elim (eqb_tells a b) [
   | inl p ↦ (λ h. p.1, λ e. p.0)
   | inr p ↦ (λ h. absurd (true≢false (sym h ∙ p.0)), λ e. absurd (p.1 e))
 ]
 
-same_tests : (b c : Bool) → (b ≡ true → c ≡ true) → (c ≡ true → b ≡ true) → b ≡ c
+pub same_tests : (b c : Bool) → (b ≡ true → c ≡ true) → (c ≡ true → b ≡ true) → b ≡ c
 same_tests true true f g = refl
 same_tests true false f g = sym (f refl)
 same_tests false true f g = g refl
@@ -227,23 +227,28 @@ module _ (tables : TablesValue) (pairs : List (Numbers × Tagged)) (are : HaveOw
     once = once_by_numbers tables f.entries (λ e h. are e ((f.members e).0 h).0) f.once;
   })
 
-  -- as many match as have the wanted numbers
-  pub as_many : (s p : Option (List ℕ)) (o : Option Term) (wanted : Places) → ArePlaces tables s p o wanted → StandOnce (map (λ (e : Numbers × Tagged). e.0) pairs)
-      → length (filter (λ (e : Numbers × Tagged). has_places wanted e.0) pairs) ≡ length (filter (matches s p o) view)
-  as_many s p o wanted places once =
-      counted pairs are ∙ sym (order_count (matches s p o) (pairs_of pairs) (once_by_numbers tables pairs are once)) ∙ ap (λ (zs : List Tagged). length (filter (matches s p o) zs)) view_is
+  -- as many pass a test as have the wanted numbers, where it tells these
+  pub as_many_by : (test : Tagged → Bool) (wanted : Places) → ((pair : Tagged) (numbers : Numbers) → AreNumbersOf tables pair numbers → test pair ≡ has_places wanted numbers)
+      → StandOnce (map (λ (e : Numbers × Tagged). e.0) pairs) → length (filter (λ (e : Numbers × Tagged). has_places wanted e.0) pairs) ≡ length (filter test view)
+  as_many_by test wanted tells once =
+      counted pairs are ∙ sym (order_count test (pairs_of pairs) (once_by_numbers tables pairs are once)) ∙ ap (λ (zs : List Tagged). length (filter test zs)) view_is
     where
-      counted : (list : List (Numbers × Tagged)) → HaveOwnNumbers tables list → length (filter (λ (e : Numbers × Tagged). has_places wanted e.0) list) ≡ length (filter (matches s p o) (pairs_of list))
+      counted : (list : List (Numbers × Tagged)) → HaveOwnNumbers tables list → length (filter (λ (e : Numbers × Tagged). has_places wanted e.0) list) ≡ length (filter test (pairs_of list))
       counted [] own = refl
       counted (e ∷ list) own =
-          by (has_places wanted e.0) (matches s p o e.1) (sym (matches_wanted tables s p o wanted e.1 e.0 places (own e (inl refl))))
-          (filter (λ (e : Numbers × Tagged). has_places wanted e.0) list) (filter (matches s p o) (pairs_of list)) (counted list (λ x h. own x (inr h)))
+          by (has_places wanted e.0) (test e.1) (sym (tells e.1 e.0 (own e (inl refl))))
+          (filter (λ (e : Numbers × Tagged). has_places wanted e.0) list) (filter test (pairs_of list)) (counted list (λ x h. own x (inr h)))
         where
           by : (a b : Bool) → a ≡ b → (xs : List (Numbers × Tagged)) (ys : List Tagged) → length xs ≡ length ys → length (cond a (e ∷ xs) xs) ≡ length (cond b (e.1 ∷ ys) ys)
           by true true q xs ys l = ap (λ n. suc n) l
           by true false q xs ys l = absurd (true≢false q)
           by false true q xs ys l = absurd (false≢true q)
           by false false q xs ys l = l
+
+  -- as many match as have the wanted numbers
+  pub as_many : (s p : Option (List ℕ)) (o : Option Term) (wanted : Places) → ArePlaces tables s p o wanted → StandOnce (map (λ (e : Numbers × Tagged). e.0) pairs)
+      → length (filter (λ (e : Numbers × Tagged). has_places wanted e.0) pairs) ≡ length (filter (matches s p o) view)
+  as_many s p o wanted places once = as_many_by (matches s p o) wanted (λ pair numbers own. matches_wanted tables s p o wanted pair numbers places own) once
 
   pub length_is : StandOnce (map (λ (e : Numbers × Tagged). e.0) pairs) → length pairs ≡ length view
   length_is once = mapped pairs ∙ sym (order_length (pairs_of pairs) (once_by_numbers tables pairs are once)) ∙ ap length view_is

@@ -1,13 +1,15 @@
 -- What becomes of a graph by a list, and by a cut.
-use Rattle.std.proofs.Common.{◌≡◌, ◌∙◌, ◌≤◌, List, [], ◌↔◌, ◌⊎◌, sym, subst, inl, inr, arith}
+use Rattle.std.proofs.Common.{◌≡◌, ◌∙◌, ◌≤◌, List, [], ◌∷◌, ◌↔◌, ◌⊎◌, slice_index_or, slice_set, sym, subst, inl, inr, arith}
 use Rattle.tree_clock.specs.Lists.{Has, IsAscending}
 use Rattle.mld_ops.specs.Applies.{Applies}
 use Rattle.mld_ops.specs.declared.cuts.Cut.{Cut}
 use Rattle.mld_ops.specs.declared.tagged.Tagged.{Tagged}
 use Rattle.mld_ops.specs.Tagged.{tagged_cmp}
 use Rattle.pair_orders.specs.declared.keys.Numbers.{Numbers}
+use Rattle.graph_index.specs.GraphParts.{AreParts, graph_value, graph_parts}
 use Rattle.graph_index.specs.Graphs.{GraphValue, Fits, in_order_of, pairs_of}
 use Rattle.graph_index.specs.TermNumbers.{KeepsNumbers}
+use Rattle.graph_index.specs.declared.parts.Parts.{Parts}
 use Rattle.graph_index.proofs.Numbers.{kept_numbered}
 use Rattle.graph_index.proofs.Putting.{order_members, order_ascends, order_is}
 use Rattle.graph_index.proofs.Sorting.{has_image, image_has}
@@ -18,6 +20,12 @@ fits_grown cut old new room grown f = record {
   adds = let a = f.adds in omega (arith, a, room);
   numbered = λ pair h. kept_numbered old.tables new.tables pair grown (f.numbered pair h);
 }
+
+-- a graph whose parts take what fitted into it
+pub fits_first : (list : List Parts) (some new : Parts) (value : GraphValue) → AreParts list → graph_value list ≡ value
+    → ((cut : Cut) → Fits cut (graph_parts (slice_index_or list 0 some)) → Fits cut (graph_parts new)) → (cut : Cut) → Fits cut value → Fits cut (graph_value (slice_set list 0 new))
+fits_first [] some new value are e kept cut f = absurd are
+fits_first (parts ∷ _) some new value are e kept cut f = kept cut (subst (λ (v : GraphValue). Fits cut v) (sym e) f)
 
 -- the pairs of an ascending list, all with their numbers
 pub made_is : (pairs entries : List (Numbers × Tagged)) (list : List Tagged) → IsAscending tagged_cmp list → ((entry : Numbers × Tagged) → Has pairs entry ↔ Has entries entry)

@@ -1,11 +1,13 @@
+pub mod ByNumbers
 pub mod Changing
 pub mod Entries
 pub mod Finding
 pub mod Fitting
 pub mod Moving
 pub mod Numbers
-pub mod Places
+pub mod Once
 pub mod Putting
 pub mod Ranging
 pub mod Sorting
 pub mod Together
+pub mod WantedPlaces

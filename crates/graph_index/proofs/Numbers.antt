@@ -19,7 +19,7 @@ use Rattle.mld_ops.specs.declared.tagged.Tagged.{Tagged}
 use Rattle.pair_orders.specs.declared.keys.Numbers.{Numbers}
 use Rattle.indexmap.specs.IndexSet.{insert_key}
 use Rattle.graph_index.specs.TermNumbers.{TablesValue, term_number, path_number, iri_number, AreNumbersOf, IsNumbered, KeepsNumbers}
-use Rattle.graph_index.proofs.Places.{at_place, kept_inserted, same_place, some_injective}
+use Rattle.graph_index.proofs.WantedPlaces.{at_place, kept_inserted, same_place, some_injective}
 
 told_equal : (o : Ordering) → is_eq o ≡ true → o ≡ Equal
 told_equal Less h = absurd (false≢true h)

@@ -10,7 +10,7 @@ use Rattle.pair_orders.specs.declared.keys.Places.{Places}
 use Rattle.graph_index.specs.Graphs.{pairs_of}
 use Rattle.graph_index.specs.TermNumbers.{TablesValue, AreNumbersOf, HaveOwnNumbers, iri_number, term_number}
 use Rattle.graph_index.proofs.Numbers.{same_iri, same_term}
-use Rattle.graph_index.proofs.Places.{some_injective}
+use Rattle.graph_index.proofs.WantedPlaces.{some_injective}
 use Rattle.graph_index.proofs.Sorting.{image_has}
 
 abbrev terms_of : Numbers × Tagged → ℕ × ℕ × ℕ

@@ -1,22 +1,27 @@
 //! The pairs of a clone.
-ghost use Rattle.std.specs.Prelude.{◌≡◌, ◌<◌, ◌≤◌, ◌+◌, ◌*◌, ◌↔◌, [], length, map, IsTrue, IfOk, OnOk};
+ghost use Rattle.std.specs.Prelude.{◌≡◌, ◌<◌, ◌≤◌, ◌+◌, ◌*◌, ◌↔◌, ℕ, [], length, map, Some, IsTrue, IfOk, IfSome, IfNone, OnOk};
 ghost use Rattle.std.specs.List.{filter};
 ghost use Rattle.std.specs.Option.{option_copied};
+ghost use Rattle.graph_index.specs.GraphParts.{graph_parts};
 ghost use Rattle.graph_index.specs.Graphs.{Fits};
 ghost use Rattle.graph_index.specs.Matching.{is_of, is_within_range, matches, dots_of, FindsEach, HasTriple, StandTogether};
+ghost use Rattle.graph_index.specs.Numbered.{term_numbered, triple_numbered, has_wanted, StandForOwn, AreAllNumbered, FindsNumbered};
+ghost use Rattle.graph_index.specs.TermNumbers.{HaveOwnNumbers, StandApart};
 ghost use Rattle.mld_ops.specs.Applies.{Applies};
 ghost use Rattle.mld_ops.specs.Tagged.{tagged_cmp};
 ghost use Rattle.mld_ops.specs.declared.cuts.Cut.{Cut};
 ghost use Rattle.mld_ops.specs.declared.tagged.Tagged.{Tagged};
 ghost use Rattle.pair_orders.specs.Orders.{binary_digits};
+ghost use Rattle.rdf_terms.specs.declared.terms.Triple.{Triple};
 ghost use Rattle.tree_clock.specs.Lists.{IsAscending};
 
 use crate::copies::{copy_found, dots_found};
 use crate::found::sort_found;
 use crate::numbered::{gain_all, lose_all, with_numbers};
+use crate::parts::Parts;
 use crate::tables::Tables;
 use mld_ops::{Cut, Tagged, Tags};
-use pair_orders::{NumberedPairs, Numbers, Steps};
+use pair_orders::{NumberedPairs, Numbers, Places, Steps, TermNumbers};
 use rdf_terms::{Iri, Term, Triple};
 use std::alloc::{AllocError, Global};
 use std::marker::{Brand, Model};
@@ -26,25 +31,19 @@ use tree_clock::{Dot, Range};
 /// The pairs of a clone: a set. Contracts see them as an ascending list, and whether there is room for a cut.
 #[derive(Drop)]
 pub struct Graph {
-    tables: Tables,
-    numbered: NumberedPairs,
-    // The numbers of what was prepared last, which `apply` takes where they are right.
-    given: Vec<Numbers>,
+    // An array of one, so that whoever owns a graph lets it go by one call.
+    parts: [Parts; 1],
 }
 
 impl Model for Graph {
-    ghost use Rattle.graph_index.specs.Graphs.{GraphValue, in_order_of, pairs_of};
-    ghost use Rattle.graph_index.specs.TermNumbers.{HaveOwnNumbers};
+    ghost use Rattle.graph_index.specs.GraphParts.{AreParts, graph_value};
+    ghost use Rattle.graph_index.specs.Graphs.{GraphValue};
 
     ghost Value = { GraphValue };
 
-    ghost view = { λ graph. record {
-      pairs = in_order_of (pairs_of graph.numbered.pairs);
-      room = graph.numbered.room;
-      tables = graph.tables;
-    } };
+    ghost view = { λ graph. graph_value graph.parts };
 
-    ghost invariant = { λ graph. HaveOwnNumbers graph.tables graph.numbered.pairs };
+    ghost invariant = { λ graph. AreParts graph.parts };
 }
 
 impl Graph {
@@ -52,11 +51,11 @@ impl Graph {
     pub fn empty(alloc: Global) -> Graph
         ensures { result.pairs ≡ [] }
     {
-        Graph {
-            tables: Tables::new(alloc),
-            numbered: NumberedPairs::new(alloc),
-            given: Vec::new(alloc),
-        }
+        graph_of(
+            Tables::new(alloc),
+            NumberedPairs::new(alloc),
+            Vec::new(alloc),
+        )
     }
 
     /// The graph of these pairs, which ascend.
@@ -69,12 +68,7 @@ impl Graph {
         tables.give_all(&list, &mut numbers)?;
         let entries = with_numbers(alloc, &tables, &mut numbers, list)?;
         let numbered = NumberedPairs::build(alloc, entries)?;
-        let given = Vec::new(alloc);
-        Ok(Graph {
-            tables,
-            numbered,
-            given,
-        })
+        Ok(graph_of(tables, numbered, Vec::new(alloc)))
     }
 
     /// Its pairs, ascending.
@@ -93,12 +87,24 @@ impl Graph {
         self.sorted(alloc)
     }
 
+    // What it is made of.
+    fn parts(&self) -> &Parts
+        ensures value { graph_parts result.now ≡ self.now }
+        ensures own { HaveOwnNumbers result.now.tables result.now.numbered.pairs }
+        ensures apart { StandApart result.now.tables.terms result.now.tables.paths }
+    {
+        let parts = &self.parts[0];
+        // It tells that no term has two numbers, and no path has.
+        let _ = parts.tables.count_terms();
+        parts
+    }
+
     // Its pairs, sorted where they are lent.
     fn sorted(&self, alloc: Global) -> Result<Vec<&Tagged>, AllocError>
         ensures pairs { IfOk result (λ list. map (λ x. x.now) list.items ≡ self.now.pairs) }
         ensures ascending { IsAscending tagged_cmp self.now.pairs }
     {
-        let mut pairs = self.numbered.lend_all(alloc)?;
+        let mut pairs = self.parts().numbered.lend_all(alloc)?;
         sort_found(&mut pairs);
         Ok(pairs)
     }
@@ -115,7 +121,7 @@ impl Graph {
     pub fn count(&self) -> usize
         ensures { result ≡ length self.now.pairs }
     {
-        self.numbered.len()
+        self.parts().numbered.len()
     }
 
     /// Makes room for the pairs that a cut adds.
@@ -124,9 +130,7 @@ impl Graph {
         ensures ok { OnOk result (Fits cut.now self.new) }
         ensures kept { (other : Cut) → Fits other self.old → Fits other self.new }
     {
-        self.given.clear();
-        self.tables.give_all(&cut.adds, &mut self.given)?;
-        self.numbered.prepare(alloc, cut.adds.len())
+        prepare_parts(alloc, &mut self.parts[0], cut)
     }
 
     /// Loses the pairs that a cut drops, and then gains those that it adds. It takes no memory.
@@ -134,9 +138,7 @@ impl Graph {
         requires { Fits cut self.old }
         ensures { Applies cut.drops.items cut.adds.items self.old.pairs self.new.pairs }
     {
-        let Cut { drops, adds } = cut;
-        lose_all(&self.tables, &mut self.numbered, &drops);
-        gain_all(&self.tables, &mut self.numbered, &mut self.given, adds);
+        apply_to_parts(&mut self.parts[0], cut);
     }
 
     /// The pairs whose triple has the given parts, each once, in whatever order, but those of one triple together. It makes as many comparisons at most as two searches by
@@ -156,10 +158,11 @@ impl Graph {
         ensures bound { steps.new ≤ steps.old + 2 * binary_digits (length self.now.pairs) + length (filter (matches
             (option_copied s.entry) (option_copied p.entry) (option_copied o.entry)) self.now.pairs) + 2 }
     {
-        let Some(wanted) = self.tables.places(s, p, o) else {
+        let parts = self.parts();
+        let Some(wanted) = parts.tables.places(s, p, o) else {
             return Ok(Vec::new(alloc));
         };
-        self.numbered.search(alloc, &wanted, steps)
+        parts.numbered.search(alloc, &wanted, steps)
     }
 
     /// Whether some pair has the triple. It takes no memory.
@@ -167,10 +170,54 @@ impl Graph {
         ensures found { IsTrue result ↔ HasTriple self.now.pairs triple.now }
         ensures ascending { IsAscending tagged_cmp self.now.pairs }
     {
-        match self.tables.triple(triple) {
-            Some((s, p, o)) => self.numbered.has_triple(s, p, o),
+        let parts = self.parts();
+        match parts.tables.triple(triple) {
+            Some((s, p, o)) => parts.numbered.has_triple(s, p, o),
             None => false,
         }
+    }
+
+    /// The term that has a number, where one has.
+    pub fn term(&self, number: u32) -> Option<&Term>
+        ensures value { option_copied result ≡ term_numbered self.now number }
+        ensures own { StandForOwn self.now }
+    {
+        self.parts().tables.term_at(number)
+    }
+
+    /// The number of a term, where it has one.
+    pub fn number(&self, term: &Term) -> Option<u32>
+        ensures some { IfSome result (λ number. term_numbered self.now number ≡ Some term.now) }
+        ensures none { IfNone result ((number : ℕ) → ¬ (term_numbered self.now number ≡ Some term.now)) }
+        ensures own { StandForOwn self.now }
+        ensures all { AreAllNumbered self.now }
+    {
+        self.parts().tables.term(term)
+    }
+
+    /// The triples whose terms have the wanted numbers, by the numbers of their terms, each once, in whatever order. It makes as many comparisons at most as two searches
+    /// by halves and one for each pair of such a triple take.
+    pub fn triples<L: Ledger>(
+        &self,
+        alloc: Global,
+        wanted: &Places,
+        steps: &mut Steps<L>,
+    ) -> Result<Vec<TermNumbers>, AllocError>
+        ensures found { IfOk result (λ found. FindsNumbered self.now wanted.now found.items) }
+        ensures ascending { IsAscending tagged_cmp self.now.pairs }
+        ensures bound { steps.new ≤ steps.old + 2 * binary_digits (length self.now.pairs)
+            + length (filter (λ (pair : Tagged). has_wanted self.now wanted.now pair.triple) self.now.pairs) + 2 }
+    {
+        self.parts().numbered.triples(alloc, wanted, steps)
+    }
+
+    /// Whether some pair has the triple of these numbers. It takes no memory.
+    pub fn has_numbers(&self, terms: &TermNumbers) -> bool
+        ensures found { IsTrue result ↔ ((triple : Triple) × (triple_numbered self.now terms.now ≡ Some triple)
+            × HasTriple self.now.pairs triple) }
+        ensures ascending { IsAscending tagged_cmp self.now.pairs }
+    {
+        self.parts().numbered.has_triple(terms.s, terms.p, terms.o)
     }
 
     /// The pairs with the triple, ascending.
@@ -204,8 +251,9 @@ impl Graph {
             (map (λ x. x.now) found.items)) }
         ensures ascending { IsAscending tagged_cmp self.now.pairs }
     {
-        match self.tables.path(&range.path) {
-            Some(path) => self.numbered.of_dots(alloc, path, range.first, range.last),
+        let parts = self.parts();
+        match parts.tables.path(&range.path) {
+            Some(path) => parts.numbered.of_dots(alloc, path, range.first, range.last),
             None => Ok(Vec::new(alloc)),
         }
     }
@@ -238,8 +286,9 @@ impl Tags for Graph {
     ghost pairs = { λ graph. graph.pairs };
 
     fn has(&self, pair: &Tagged) -> bool {
-        match self.tables.numbers(pair) {
-            Some(numbers) => self.numbered.has(&numbers),
+        let parts = self.parts();
+        match parts.tables.numbers(pair) {
+            Some(numbers) => parts.numbered.has(&numbers),
             None => false,
         }
     }
@@ -249,4 +298,42 @@ impl Tags for Graph {
         sort_found(&mut found);
         copy_found(alloc, &found)
     }
+}
+
+// The graph of these parts.
+fn graph_of(tables: Tables, numbered: NumberedPairs, given: Vec<Numbers>) -> Graph
+    requires { HaveOwnNumbers tables numbered.pairs }
+    ensures { result ≡ graph_parts (record { tables = tables; numbered = numbered; given = given }) }
+{
+    let parts = Parts {
+        tables,
+        numbered,
+        given,
+    };
+    Graph { parts: [parts] }
+}
+
+// Makes room for the pairs that a cut adds, and gives numbers to what has none.
+fn prepare_parts(alloc: Global, parts: &mut Parts, cut: &Cut) -> Result<(), AllocError>
+    requires { HaveOwnNumbers parts.old.tables parts.old.numbered.pairs }
+    ensures own { HaveOwnNumbers parts.new.tables parts.new.numbered.pairs }
+    ensures pairs { parts.new.numbered.pairs ≡ parts.old.numbered.pairs }
+    ensures ok { OnOk result (Fits cut.now (graph_parts parts.new)) }
+    ensures kept { (other : Cut) → Fits other (graph_parts parts.old) → Fits other (graph_parts parts.new) }
+{
+    parts.given.clear();
+    parts.tables.give_all(&cut.adds, &mut parts.given)?;
+    parts.numbered.prepare(alloc, cut.adds.len())
+}
+
+// Loses the pairs that a cut drops, and then gains those that it adds.
+fn apply_to_parts(parts: &mut Parts, cut: Cut)
+    requires own { HaveOwnNumbers parts.old.tables parts.old.numbered.pairs }
+    requires fits { Fits cut (graph_parts parts.old) }
+    ensures own { HaveOwnNumbers parts.new.tables parts.new.numbered.pairs }
+    ensures pairs { Applies cut.drops.items cut.adds.items (graph_parts parts.old).pairs (graph_parts parts.new).pairs }
+{
+    let Cut { drops, adds } = cut;
+    lose_all(&parts.tables, &mut parts.numbered, &drops);
+    gain_all(&parts.tables, &mut parts.numbered, &mut parts.given, adds);
 }

@@ -10,9 +10,10 @@ mod matching;
 mod numbered;
 mod pair_order;
 mod pair_sets;
+mod parts;
 mod ranges;
 mod tables;
 
 pub use graphs::Graph;
-pub use pair_orders::Steps;
+pub use pair_orders::{Places, Steps, TermNumbers};
 pub use pair_sets::PairSet;

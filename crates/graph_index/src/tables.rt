@@ -1,10 +1,11 @@
 //! The numbers of terms and paths.
 ghost use Rattle.std.specs.Prelude.{◌≡◌, ◌<◌, ◌≤◌, ◌^◌, [], length, Some, IfSome, IfNone, IfOk, IsTrue, OnOk};
+ghost use Rattle.std.specs.List.{slice_get};
 ghost use Rattle.std.specs.Option.{option_copied};
 ghost use Rattle.rdf_terms.specs.declared.terms.Term.TheVariants as terms;
 ghost use Rattle.tree_clock.specs.Lists.{Has};
 ghost use Rattle.mld_ops.specs.declared.tagged.Tagged.{Tagged};
-ghost use Rattle.graph_index.specs.TermNumbers.{term_number, path_number, iri_number, number_given, AreNumbersOf, IsNumbered, KeepsNumbers, ArePlaces, LackNumber};
+ghost use Rattle.graph_index.specs.TermNumbers.{term_number, path_number, iri_number, number_given, StandApart, AreNumbersOf, IsNumbered, KeepsNumbers, ArePlaces, LackNumber};
 
 use crate::by_iri::ByIri;
 use indexmap::IndexSet;
@@ -54,8 +55,22 @@ impl Tables {
         u32::try_from(index).ok()
     }
 
-    // The number of a term.
-    fn term(&self, term: &Term) -> Option<u32>
+    /// How many terms have numbers, of which no two are the same.
+    pub(crate) fn count_terms(&self) -> usize
+        ensures { StandApart self.now.terms self.now.paths }
+    {
+        self.terms.len()
+    }
+
+    /// The term that has a number, where one has.
+    pub(crate) fn term_at(&self, number: u32) -> Option<&Term>
+        ensures { option_copied result ≡ slice_get self.now.terms number }
+    {
+        self.terms.get_index(number as usize)
+    }
+
+    /// The number of a term.
+    pub(crate) fn term(&self, term: &Term) -> Option<u32>
         ensures { result ≡ term_number self.now.terms term.now }
     {
         let index = self.terms.get_index_of(term)?;

@@ -6,4 +6,4 @@ use Rattle.graph_index.proofs.graphs.Graph.count.Goals as goal
 pub returns : goal.returns
 returns c =
     c.len.ensures.len
-    ∙ length_is c.self.inside.tables c.self.inside.numbered.pairs c.self.invariant c.args.self.now.pairs (ap (λ (v : GraphValue). v.pairs) c.self.view_is) c.len.ensures.once
+    ∙ length_is c.parts.result.now.tables c.parts.result.now.numbered.pairs c.parts.ensures.own c.args.self.now.pairs (ap (λ (v : GraphValue). v.pairs) c.parts.ensures.value) c.len.ensures.once

@@ -1,3 +1,5 @@
+use Rattle.std.proofs.Common.{◌∙◌, ap}
+use Rattle.graph_index.specs.Graphs.{GraphValue}
 use Rattle.graph_index.proofs.Entries.{ascending_once}
 use Rattle.graph_index.proofs.Fitting.{made_is}
 use Rattle.graph_index.proofs.graphs.Graph.from_list.Goals as goal
@@ -7,4 +9,5 @@ with_numbers-requires-clause-once c = ascending_once c.args.list.items c.require
 
 pub returns : goal.returns
 returns c =
+    ap (λ (v : GraphValue). v.pairs) c.graph_of.ensures ∙
     made_is c.in_ok-numbered.numbered.pairs c.in_ok-entries.entries.items c.args.list.items c.requires c.in_ok-numbered.ensures c.in_ok-entries.ensures.members

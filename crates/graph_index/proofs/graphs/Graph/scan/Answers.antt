@@ -11,21 +11,21 @@ use Rattle.graph_index.proofs.graphs.Graph.scan.Goals as goal
 
 pub returns-in_default-clause-found : goal.returns-in_default-clause-found
 returns-in_default-clause-found g c =
-    finds_none c.self.inside.tables c.self.inside.numbered.pairs c.self.invariant c.args.self.now.pairs (ap (λ (v : GraphValue). v.pairs) c.self.view_is)
+    finds_none c.parts-parts.result.now.tables c.parts-parts.result.now.numbered.pairs c.parts-parts.ensures.own c.args.self.now.pairs (ap (λ (v : GraphValue). v.pairs) c.parts-parts.ensures.value)
     (option_copied c.args.s) (option_copied c.args.p) (option_copied c.args.o) (map (λ x. x.now) c.new.result.items) (ap (map (λ x. x.now)) c.new.ensures.items) c.in_default.ensures.none
 
 pub returns-in_default-clause-ascending : goal.returns-in_default-clause-ascending
 returns-in_default-clause-ascending g c =
-    view_ascends c.self.inside.tables c.self.inside.numbered.pairs c.self.invariant c.args.self.now.pairs (ap (λ (v : GraphValue). v.pairs) c.self.view_is)
+    view_ascends c.parts-parts.result.now.tables c.parts-parts.result.now.numbered.pairs c.parts-parts.ensures.own c.args.self.now.pairs (ap (λ (v : GraphValue). v.pairs) c.parts-parts.ensures.value)
 
 pub returns-clause-ascending : goal.returns-clause-ascending
 returns-clause-ascending g c =
-    view_ascends c.self.inside.tables c.self.inside.numbered.pairs c.self.invariant c.args.self.now.pairs (ap (λ (v : GraphValue). v.pairs) c.self.view_is)
+    view_ascends c.parts-parts.result.now.tables c.parts-parts.result.now.numbered.pairs c.parts-parts.ensures.own c.args.self.now.pairs (ap (λ (v : GraphValue). v.pairs) c.parts-parts.ensures.value)
 
 pub returns-clause-found : goal.returns-clause-found
 returns-clause-found g c =
     ok_weaker c.search.result
-    (λ found h. finds_all c.self.inside.tables c.self.inside.numbered.pairs c.self.invariant c.args.self.now.pairs (ap (λ (v : GraphValue). v.pairs) c.self.view_is)
+    (λ found h. finds_all c.parts-parts.result.now.tables c.parts-parts.result.now.numbered.pairs c.parts-parts.ensures.own c.args.self.now.pairs (ap (λ (v : GraphValue). v.pairs) c.parts-parts.ensures.value)
     (option_copied c.args.s) (option_copied c.args.p) (option_copied c.args.o) c.in-Some.wanted (map (λ x. x.now) found.items) c.in-Some.ensures.some h)
     c.search.ensures.found
 
@@ -35,13 +35,13 @@ returns-in_default-clause-together g c =
 
 pub returns-clause-together : goal.returns-clause-together
 returns-clause-together g c =
-    ok_weaker c.search.result (λ found h. finds_together c.self.inside.tables c.self.inside.numbered.pairs c.in-Some.wanted (map (λ x. x.now) found.items) c.self.invariant h) c.search.ensures.found
+    ok_weaker c.search.result (λ found h. finds_together c.parts-parts.result.now.tables c.parts-parts.result.now.numbered.pairs c.in-Some.wanted (map (λ x. x.now) found.items) c.parts-parts.ensures.own h) c.search.ensures.found
 
 pub returns-clause-bound : goal.returns-clause-bound
 returns-clause-bound g c =
-    let v = ap (λ (v : GraphValue). v.pairs) c.self.view_is in
-    let d = ap binary_digits (length_is c.self.inside.tables c.self.inside.numbered.pairs c.self.invariant c.args.self.now.pairs v c.search.ensures.once) in
-    let m = as_many c.self.inside.tables c.self.inside.numbered.pairs c.self.invariant c.args.self.now.pairs v
+    let v = ap (λ (v : GraphValue). v.pairs) c.parts-parts.ensures.value in
+    let d = ap binary_digits (length_is c.parts-parts.result.now.tables c.parts-parts.result.now.numbered.pairs c.parts-parts.ensures.own c.args.self.now.pairs v c.search.ensures.once) in
+    let m = as_many c.parts-parts.result.now.tables c.parts-parts.result.now.numbered.pairs c.parts-parts.ensures.own c.args.self.now.pairs v
     (option_copied c.args.s) (option_copied c.args.p) (option_copied c.args.o) c.in-Some.wanted c.in-Some.ensures.some c.search.ensures.once in
     let b = c.search.ensures.bound in
     omega (arith, d, m, b)
