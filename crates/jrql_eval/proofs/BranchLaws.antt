@@ -1,23 +1,18 @@
 -- The solutions of a group, branch by branch.
-use Rattle.std.proofs.Common.{◌≡◌, ◌∙◌, ℕ, zero, suc, ◌==◌, true≢false, ◌+◌, ◌<◌, List, [], ◌∷◌, ◌++◌, Bool, Option, Err, if◌then◌else◌, true, false, None, replicate, length, get_or, map, take, filter, flat_map, refl, sym, ap, subst, append-nil, arith}
+use Rattle.std.proofs.Common.{◌≡◌, ◌∙◌, ℕ, zero, suc, ◌==◌, true≢false, ◌<◌, List, [], ◌∷◌, ◌++◌, Bool, Option, if◌then◌else◌, true, false, None, replicate, length, map, filter, flat_map, refl, sym, ap, subst, append-nil, eqb-true, arith}
 use Rattle.std.specs.List.Sorted.{IsPermutation}
-use Rattle.std.proofs.lemmas.List.{take_more}
-use Rattle.std.proofs.lemmas.List.Concat.{flat_map-append}
 use Rattle.std.proofs.lemmas.List.Elements.{filter-append}
-use Rattle.std.proofs.lemmas.List.Folds.{length-flat_map-take}
-use Rattle.std.proofs.lemmas.List.Sorted.{IsPermutation-trans, IsPermutation-append_left, length_permutation}
+use Rattle.std.proofs.lemmas.List.Sorted.{IsPermutation-trans}
 use Rattle.rdf_terms.specs.declared.terms.Term.{Term}
 use Rattle.rdf_terms.specs.declared.terms.Triple.{Triple}
 use Rattle.jrql_ast.specs.declared.patterns.Group.{Group}
 use Rattle.jrql_ast.specs.declared.patterns.PatternTriple.{PatternTriple}
-use Rattle.jrql_ast.specs.QueryAnswers.{IsSortingOf, IsSolutions, found, row_cmp, solution_limit}
+use Rattle.jrql_ast.specs.QueryAnswers.{IsSortingOf, IsSolutions, found, row_cmp}
 use Rattle.jrql_ast.specs.Solutions.{branches_of, matches_from, unbound}
 use Rattle.jrql_ast.proofs.Permuted.{matches_permuted}
 use Rattle.jrql_ast.proofs.Rearranging.{filter_permutes}
 use Rattle.std.specs.declared.cmp.Ordering.{Ordering}
-use Rattle.jrql_eval.specs.declared.faults.EvalFault.{EvalFault}
-use Rattle.jrql_eval.specs.declared.faults.EvalFault.TheVariants.{TooMany, NoMemory}
-use Rattle.jrql_eval.specs.AddedRows.{AddsInAnyOrder, FindsRows, of_branch}
+use Rattle.jrql_eval.specs.KeptValues.{of_branch}
 use Rattle.jrql_eval.specs.ColumnOrder.{AreColumnsOf}
 use Rattle.jrql_ast.specs.InForm.{variables_of}
 use Rattle.jrql_eval.specs.declared.plans.Plan.{Plan}
@@ -49,22 +44,6 @@ pub planned_branch : (graph : List Triple) (group : Group) (branch checks stages
 planned_branch graph group branch checks stages p =
     filter_permutes (all_hold group.filters) _ _ (matches_permuted graph (group.patterns ++ branch) (checks ++ stages) p (unbound group))
 
--- one branch more
-pub branch_more : {X : Type 0} (B : X → List (List (Option Term))) (branches : List X) (i : ℕ) (branch : X) (rows new : List (List (Option Term))) → i < length branches → branch ≡ get_or branches i branch
-    → IsPermutation (flat_map B (take i branches)) rows → IsPermutation (rows ++ B branch) new → take (i + 1) branches ≡ take i branches ++ branch ∷ []
-    → IsPermutation (flat_map B (take (i + 1) branches)) new
-branch_more B branches i branch rows new l is p q e =
-    subst (λ z. IsPermutation z new) (sym (ap (flat_map B) e ∙ flat_map-append B (take i branches) (branch ∷ []) ∙ ap (λ z. flat_map B (take i branches) ++ z) (append-nil (B branch))))
-    (IsPermutation-trans _ _ _ (IsPermutation-append_left (B branch) _ _ p) q)
-
-pub too_many_branches : {X : Type 0} (B : X → List (List (Option Term))) (branches : List X) (i : ℕ) (branch : X) (rows : List (List (Option Term))) → i < length branches → branch ≡ get_or branches i branch
-    → IsPermutation (flat_map B (take i branches)) rows → solution_limit < length rows + length (B branch) → solution_limit < length (flat_map B branches)
-too_many_branches B branches i branch rows l is p h =
-    let all = length-flat_map-take B branches i branch l in
-    let here = ap (λ z. length (B z)) is in
-    let so_far = length_permutation (flat_map B (take i branches)) rows p in
-    omega (arith, all, here, so_far, h)
-
 -- sorting what has another order
 pub sorting_of : {X : Type 0} (order : X → X → Ordering) (given moved sorted : List X) → IsPermutation given moved → IsSortingOf order moved sorted → IsSortingOf order given sorted
 sorting_of order given moved sorted p s = record { same = IsPermutation-trans given moved sorted p s.same; ascending = s.ascending }
@@ -93,16 +72,10 @@ branch_planned graph group branch n plan start there e p s h =
     by true q = q
     by false q = q
 
--- one branch more leads to too many
-pub finds_err : (A : Type 0) {X : Type 0} (B : X → List (List (Option Term))) (branches : List X) (i : ℕ) (branch : X) (rows new : List (List (Option Term))) (fault : EvalFault)
-    → i < length branches → branch ≡ get_or branches i branch → IsPermutation (flat_map B (take i branches)) rows
-    → AddsInAnyOrder {X = Unit {0}} rows (B branch) (Err fault) new → FindsRows {A = A} (flat_map B branches) (Err fault)
-finds_err A B branches i branch rows new TooMany l is p a = too_many_branches B branches i branch rows l is p a
-finds_err A B branches i branch rows new NoMemory l is p a = tt
-
-pub take_one_more : {X : Type 0} (xs : List X) (i : ℕ) (x : X) → i < length xs → x ≡ get_or xs i x → take (i + 1) xs ≡ take i xs ++ x ∷ []
-take_one_more xs i x l is = take_more xs i x l ∙ ap (λ z. take i xs ++ z ∷ []) (sym is)
-
 pub some_there : (n : ℕ) → (n == 0) ≡ false → 0 < n
 some_there zero h = absurd (true≢false h)
 some_there (suc n) h = omega arith
+
+pub no_branch : {X : Type 0} (xs : List X) → (length xs == 0) ≡ true → xs ≡ []
+no_branch [] h = refl
+no_branch (x ∷ xs) h = let e = eqb-true (length (x ∷ xs)) 0 h in absurd (omega (arith, e))

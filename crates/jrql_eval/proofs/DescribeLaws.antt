@@ -1,5 +1,5 @@
 -- The subjects that are described are those of the graph that a target names or has, in order.
-use Rattle.std.proofs.Common.{◌≡◌, ◌∙◌, ℕ, zero, suc, ◌+◌, ◌<◌, ◌↔◌, List, [], ◌∷◌, ◌++◌, Bool, true, false, ◌||◌, cond, Option, None, Some, Bor, length, get_or, take, map, filter, flat_map, refl, sym, ap, subst, inl, inr, true≢false, arith}
+use Rattle.std.proofs.Common.{◌≡◌, ◌∙◌, ℕ, zero, suc, ◌+◌, ◌<◌, ◌↔◌, List, [], ◌∷◌, ◌++◌, Bool, true, false, ◌||◌, cond, Option, None, Some, Vec, Bor, length, get_or, take, map, filter, flat_map, refl, sym, ap, subst, inl, inr, true≢false, arith}
 use Rattle.std.specs.List.{cons_option, dedup, dedup_from, list_any}
 use Rattle.std.specs.List.Sorted.{IsSorted}
 use Rattle.std.specs.Ordering.{eq_by_cmp, is_lt, ordering_reverse, ordering_then}
@@ -7,7 +7,7 @@ use Rattle.std.specs.declared.cmp.Ordering.{Ordering}
 use Rattle.std.specs.declared.cmp.Ordering.TheVariants.{Less, Equal, Greater}
 use Rattle.std.specs.Cmp.{eq_by_cmp_equiv}
 use Rattle.std.proofs.lemmas.Bool.{and_parts, cases_Bool, or_cases}
-use Rattle.std.proofs.lemmas.List.{take_more}
+use Rattle.std.proofs.lemmas.List.{map-append, take_more}
 use Rattle.std.proofs.lemmas.List.Elements.{filter_map-append}
 use Rattle.std.specs.Option.{option_to_list}
 use Rattle.std.proofs.lemmas.Slice.Eq.{bytes_eq-Decides}
@@ -29,7 +29,10 @@ use Rattle.jrql_ast.specs.declared.queries.Target.TheVariants as targets
 use Rattle.jrql_ast.specs.QueryAnswers.{described, is_iri_value, subjects_of, targets_iri}
 use Rattle.jrql_ast.specs.Solutions.{is_same_term, value_of}
 use Rattle.jrql_eval.specs.Asked.{IsDescribedBy, all_targeted, bound_iris, described_by, described_where, targeted_by}
+use Rattle.graph_index.specs.Graphs.{GraphValue}
+use Rattle.jrql_eval.specs.Bindings.{row_numbered}
 use Rattle.jrql_eval.specs.Evaluating.{has_parts, iri_of_term}
+use Rattle.jrql_eval.specs.KeptValues.{rows_numbered}
 use Rattle.jrql_ast.proofs.BoundSlots.{same_refl, some_is, none_some}
 
 is_there : {X : Type 0} → List X → Bool
@@ -63,7 +66,7 @@ same_is a b h = (bytes_eq-Decides a b).0 h
 is_itself : (a : List ℕ) → is_same a a ≡ true
 is_itself a = (bytes_eq-Decides a a).1 refl
 
-agree_tests : (b c : Bool) → (b ≡ true → c ≡ true) → (c ≡ true → b ≡ true) → b ≡ c
+pub agree_tests : (b c : Bool) → (b ≡ true → c ≡ true) → (c ≡ true → b ≡ true) → b ≡ c
 agree_tests true c f g = sym (f refl)
 agree_tests false true f g = g refl
 agree_tests false false f g = refl
@@ -77,7 +80,7 @@ from_alike : {X : Type 0} (E F : X → X → Bool) → ((a b : X) → E a b ≡ 
 from_alike E F h k [] = refl
 from_alike E F h k (x ∷ xs) = let e = h x k in let a = from_alike E F h k xs in let b = from_alike E F h x xs in λ i. cond (e i) (a i) (k ∷ b i)
 
-dedup_alike : {X : Type 0} (E F : X → X → Bool) → ((a b : X) → E a b ≡ F a b) → (xs : List X) → dedup E xs ≡ dedup F xs
+pub dedup_alike : {X : Type 0} (E F : X → X → Bool) → ((a b : X) → E a b ≡ F a b) → (xs : List X) → dedup E xs ≡ dedup F xs
 dedup_alike E F h [] = refl
 dedup_alike E F h (x ∷ xs) = from_alike E F h x xs
 
@@ -139,10 +142,10 @@ value_is iri None h = none_some h
 value_is iri (Some (terms.Iri own)) h = subst (λ z. is_same_term (terms.Iri z) (terms.Iri own) ≡ true) (some_is own iri h) (same_refl (terms.Iri own))
 value_is iri (Some (terms.Literal literal)) h = none_some h
 
-or_left : (b c : Bool) → b ≡ true → (b || c) ≡ true
+pub or_left : (b c : Bool) → b ≡ true → (b || c) ≡ true
 or_left b c e = ap (λ z. z || c) e
 
-or_right : (b c : Bool) → c ≡ true → (b || c) ≡ true
+pub or_right : (b c : Bool) → c ≡ true → (b || c) ≡ true
 or_right true c e = refl
 or_right false c e = e
 
@@ -222,12 +225,15 @@ described_are graph rows targets (first ∷ others) some put =
       there_from graph iri ((has_subject graph iri).0 f.0),
     )))
 
--- one row more
-pub bound_more : (variable : ℕ) (rows : List (List (Option Term))) (i : ℕ) (row : List (Option Term)) → i < length rows → row ≡ get_or rows i row
-    → bound_iris variable (take (i + 1) rows) ≡ bound_iris variable (take i rows) ++ option_to_list (iri_of_term (value_of variable row))
-bound_more variable rows i row l is =
-    ap (bound_iris variable) (take_more rows i row l ∙ ap (λ (z : List (Option Term)). take i rows ++ z ∷ []) (sym is)) ∙ filter_map-append (λ r. iri_of_term (value_of variable r)) (take i rows) (row ∷ [])
-    ∙ ap (λ zs. bound_iris variable (take i rows) ++ zs) (one (iri_of_term (value_of variable row)))
+-- the IRIs of one row more
+pub bound_more_numbered : {A : Type 0} (graph : GraphValue) (variable : ℕ) (rows : List (Vec (Option ℕ) A)) (i : ℕ) (row : Vec (Option ℕ) A) → i < length rows → row ≡ get_or rows i row
+    → bound_iris variable (rows_numbered graph (take (i + 1) rows))
+    ≡ bound_iris variable (rows_numbered graph (take i rows)) ++ option_to_list (iri_of_term (value_of variable (row_numbered graph row.items)))
+bound_more_numbered {A} graph variable rows i row l is =
+    ap (λ (z : List (Vec (Option ℕ) A)). bound_iris variable (rows_numbered graph z)) (take_more rows i row l ∙ ap (λ (z : Vec (Option ℕ) A). take i rows ++ z ∷ []) (sym is))
+    ∙ ap (bound_iris variable) (map-append (λ (n : Vec (Option ℕ) A). row_numbered graph n.items) (take i rows) (row ∷ []))
+    ∙ filter_map-append (λ r. iri_of_term (value_of variable r)) (rows_numbered graph (take i rows)) (row_numbered graph row.items ∷ [])
+    ∙ ap (λ zs. bound_iris variable (rows_numbered graph (take i rows)) ++ zs) (one (iri_of_term (value_of variable (row_numbered graph row.items))))
   where
     one : (o : Option (List ℕ)) → cons_option o [] ≡ option_to_list o
     one None = refl

@@ -1,4 +1,3 @@
-pub mod AddedRows
 pub mod AnswerLaws
 pub mod BranchLaws
 pub mod ColumnLaws
@@ -6,11 +5,16 @@ pub mod DescribeLaws
 pub mod EachOnce
 pub mod EffectsByPlan
 pub mod FirstMost
-pub mod IriTerms
+pub mod KeptAnswers
+pub mod KeptLaws
+pub mod KeptRows
+pub mod LedRows
+pub mod NumberedRows
+pub mod NumberedTriples
 pub mod PlanSteps
 pub mod Planned
 pub mod RefusedRows
 pub mod Scanned
 pub mod SearchSteps
+pub mod SortedRows
 pub mod TripleScans
-pub mod Unbinding

@@ -15,7 +15,7 @@ use Rattle.jrql_ast.specs.InForm.{variables_of}
 use Rattle.jrql_ast.specs.Solutions.{agree, matches_from}
 use Rattle.jrql_ast.proofs.BoundSlots.{agree_later}
 use Rattle.jrql_eval.specs.declared.plans.Stage.{Stage}
-use Rattle.jrql_eval.specs.AddedRows.{of_branch}
+use Rattle.jrql_eval.specs.KeptValues.{of_branch}
 use Rattle.jrql_eval.specs.Evaluating.{AreTestsOf, all_hold, all_can_hold, checks_of, led_from, can_hold, planned}
 
 -- both sides of a filter are bound in a row, and it doesn't hold

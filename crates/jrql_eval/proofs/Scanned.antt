@@ -1,5 +1,5 @@
 -- What is found by going over the triples that a pattern may be.
-use Rattle.std.proofs.Common.{◌≡◌, ◌∙◌, ℕ, zero, suc, ◌+◌, ◌<◌, length, get_or, drop, Bor, arith, List, [], ◌∷◌, ◌++◌, Bool, true, ◌&&◌, cond, Option, None, Some, map, filter, filter_map, flat_map, refl, sym, ap, subst, inl, inr, true≢false, append-nil}
+use Rattle.std.proofs.Common.{◌≡◌, ◌∙◌, ℕ, zero, suc, ◌+◌, ◌<◌, length, get_or, drop, Bor, arith, List, [], ◌∷◌, ◌++◌, Bool, true, cond, Option, None, Some, map, filter, filter_map, flat_map, refl, sym, ap, subst, inl, inr, true≢false, append-nil}
 use Rattle.std.specs.List.{cons_option}
 use Rattle.std.specs.List.Sorted.{IsPermutation}
 use Rattle.std.specs.Cmp.{IsTotalOrder}
@@ -7,7 +7,6 @@ use Rattle.std.specs.declared.cmp.Ordering.{Ordering}
 use Rattle.std.specs.declared.cmp.Ordering.TheVariants.{Less}
 use Rattle.std.proofs.lemmas.Bool.{cases_Bool}
 use Rattle.std.proofs.lemmas.List.Sorted.{IsPermutation-refl, IsPermutation-trans, IsPermutation-cons, IsPermutation-append_left, IsPermutation-append_comm}
-use Rattle.std.proofs.lemmas.Slice.Eq.{bytes_eq-Decides}
 use Rattle.rdf_terms.specs.declared.terms.Term.{Term}
 use Rattle.rdf_terms.specs.declared.terms.Term.TheVariants as terms
 use Rattle.rdf_terms.specs.declared.terms.Triple.{Triple}
@@ -15,11 +14,10 @@ use Rattle.rdf_terms.specs.Order.{triple_cmp}
 use Rattle.rdf_terms.specs.OrderLaws.{triple_total}
 use Rattle.tree_clock.specs.Lists.{Has, IsAscending}
 use Rattle.mld_ops.proofs.AscendingLaws.{below_member, not_below_itself}
-use Rattle.graph_index.specs.Matching.{has_iri, is_term}
 use Rattle.jrql_ast.specs.declared.patterns.PatternTriple.{PatternTriple}
 use Rattle.jrql_ast.specs.FilterMeaning.{side_value}
-use Rattle.jrql_ast.specs.Solutions.{is_same_term, agree, matches_from}
-use Rattle.jrql_eval.specs.Evaluating.{has_parts, iri_known, instance_of, triple_at, iri_of_term}
+use Rattle.jrql_ast.specs.Solutions.{agree, matches_from}
+use Rattle.jrql_eval.specs.Evaluating.{instance_of, triple_at, iri_of_term}
 use Rattle.jrql_ast.proofs.Rearranging.{by_neighbours}
 use Rattle.jrql_ast.proofs.BoundSlots.{same_refl, none_some, some_is, agree_if_bound, agree_before_s, agree_before_p, agree_before_o}
 
@@ -68,49 +66,8 @@ module _ {X Y : Type 0} (h : X → Option Y) where
       ap (λ o. cons_option o (filter_map h xs)) (others x (λ same. not_below_itself R total t (subst (λ w. R w t ≡ Less) same (below_member R x xs t a.0 g))))
       ∙ one_found R total t y here others xs a.1 g
 
--- an IRI that a term is
-iri_is : (a b : List ℕ) → terms.Iri a ≡ terms.Iri b → a ≡ b
-iri_is a b e = ap iri_in e
-  where
-    iri_in : Term → List ℕ
-    iri_in (terms.Iri iri) = iri
-    iri_in (terms.Literal literal) = a
-
 -- what is known of a pattern's places
 module _ (pattern : PatternTriple) (row : List (Option Term)) where
-  has_known_iri : (known : Option Term) (given : Option (List ℕ)) (iri : List ℕ) → iri_known known ≡ Some given → ((x : Term) → known ≡ Some x → x ≡ terms.Iri iri) → has_iri given iri ≡ true
-  has_known_iri None given iri e h = subst (λ g. has_iri g iri ≡ true) (some_is None given e) refl
-  has_known_iri (Some (terms.Iri own)) given iri e h =
-      subst (λ g. has_iri g iri ≡ true) (some_is (Some own) given e) ((bytes_eq-Decides own iri).1 (iri_is own iri (h (terms.Iri own) refl)))
-  has_known_iri (Some (terms.Literal literal)) given iri e h = none_some e
-
-  has_known_term : (known : Option Term) (term : Term) → ((x : Term) → known ≡ Some x → x ≡ term) → is_term known term ≡ true
-  has_known_term None term h = refl
-  has_known_term (Some x) term h = subst (λ t. is_same_term x t ≡ true) (h x refl) (same_refl x)
-
-  -- a triple that agrees has the parts that are known
-  pub has_parts_known : (s p : Option (List ℕ)) → iri_known (side_value pattern.s row) ≡ Some s → iri_known (side_value pattern.p row) ≡ Some p
-      → (triple : Triple) (next : List (Option Term)) → agree pattern triple row ≡ Some next → has_parts s p (side_value pattern.o row) triple ≡ true
-  has_parts_known s p es ep triple next h =
-      all_three _ _ _ (has_known_iri (side_value pattern.s row) s triple.s es (agree_before_s pattern triple row next h))
-      (has_known_iri (side_value pattern.p row) p triple.p ep (agree_before_p pattern triple row next h))
-      (has_known_term (side_value pattern.o row) triple.o (agree_before_o pattern triple row next h))
-    where
-      all_three : (a b c : Bool) → a ≡ true → b ≡ true → c ≡ true → (a && (b && c)) ≡ true
-      all_three a b c e f g = rw (e, f, g) refl
-
-  -- and where a literal would be a subject or a predicate, none does
-  literal_no_iri : (known : Option Term) (iri : List ℕ) → iri_known known ≡ None → ((x : Term) → known ≡ Some x → x ≡ terms.Iri iri) → ⊥
-  literal_no_iri None iri e h = none_some (sym e)
-  literal_no_iri (Some (terms.Iri own)) iri e h = none_some (sym e)
-  literal_no_iri (Some (terms.Literal literal)) iri e h = let g : terms.Literal literal ≡ terms.Iri iri = h (terms.Literal literal) refl in cc
-
-  pub no_subject : iri_known (side_value pattern.s row) ≡ None → (triple : Triple) → agree pattern triple row ≡ None
-  no_subject e triple = none_unless _ (λ next h. literal_no_iri (side_value pattern.s row) triple.s e (agree_before_s pattern triple row next h))
-
-  pub no_predicate : iri_known (side_value pattern.p row) ≡ None → (triple : Triple) → agree pattern triple row ≡ None
-  no_predicate e triple = none_unless _ (λ next h. literal_no_iri (side_value pattern.p row) triple.p e (agree_before_p pattern triple row next h))
-
   found_at : (s p o : Term) → side_value pattern.s row ≡ Some s → side_value pattern.p row ≡ Some p → side_value pattern.o row ≡ Some o
       → (triple : Triple) → triple_at (iri_of_term (Some s)) (iri_of_term (Some p)) (Some o) ≡ Some triple → agree pattern triple row ≡ Some row
   found_at (terms.Iri s) (terms.Iri p) o es ep eo triple e =

@@ -11,7 +11,7 @@ use Rattle.jrql_ast.specs.declared.queries.Target.{Target}
 use Rattle.jrql_ast.specs.declared.queries.Target.TheVariants as targets
 use Rattle.jrql_ast.specs.declared.queries.What.{What}
 use Rattle.jrql_ast.specs.declared.queries.What.TheVariants as kinds
-use Rattle.jrql_ast.specs.QueryAnswers.{IsSortingOf, described, distinct_rows, limited, project, reply_place_cmp, subjects_of, targets_iri}
+use Rattle.jrql_ast.specs.QueryAnswers.{IsSortingOf, described, distinct_rows, limited, reply_place_cmp, subjects_of, targets_iri}
 use Rattle.jrql_ast.specs.Solutions.{value_of}
 use Rattle.jrql_eval.specs.Evaluating.{iri_of_term}
 
@@ -25,10 +25,10 @@ abbrev pub AsksSubjects : What → Type 0
 AsksSubjects (kinds.Select select) = ⊥
 AsksSubjects (kinds.Describe targets) = Unit {0}
 
--- the values of rows for a select's variables, as it asks for them
+-- rows of a select's values, as it asks for them
 pub record IsSelectedOf (select : Select) (rows kept : List (List (Option Term))) : Type 0 where
   pub values : List (List (Option Term))
-  pub sorted : IsSortingOf (slice_cmp reply_place_cmp) (map (project select.vars) rows) values
+  pub sorted : IsSortingOf (slice_cmp reply_place_cmp) rows values
   pub whole : kept ≡ limited select.limit (drop select.offset (distinct_rows select.distinct values))
 
 -- the IRIs that rows have for a variable

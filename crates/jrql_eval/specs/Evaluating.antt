@@ -1,19 +1,17 @@
 -- How the solutions of a group are found: patterns in the order of a plan, and what is known of their places.
 -- The private calls that match patterns cite it.
-use Rattle.std.specs.Borrow.{Bor}
-use Rattle.std.specs.Prelude.{◌≡◌, ℕ, List, [], ◌∷◌, ◌++◌, Bool, true, false, ◌&&◌, Option, None, Some, length, map}
-use Rattle.std.specs.List.{filter, list_all, slice_set, All}
-use Rattle.std.specs.Option.{option_map_or, option_zip}
+use Rattle.std.specs.Prelude.{◌≡◌, ℕ, List, [], ◌∷◌, ◌++◌, Bool, true, false, ◌&&◌, Option, None, Some, map}
+use Rattle.std.specs.List.{filter, All}
 use Rattle.tree_clock.specs.Lists.{Has}
 use Rattle.rdf_terms.specs.declared.terms.Term.{Term}
-use Rattle.rdf_terms.specs.declared.terms.Term.TheVariants as terms
 use Rattle.rdf_terms.specs.declared.terms.Triple.{Triple}
 use Rattle.graph_index.specs.Matching.{has_iri, is_term}
+pub use Rattle.graph_index.specs.Numbered.{iri_of_term, triple_at}
 use Rattle.jrql_ast.specs.declared.patterns.Filter.{Filter}
 pub use Rattle.jrql_filters.specs.FilteredRows.{all_hold, can_hold, all_can_hold}
 use Rattle.jrql_ast.specs.declared.patterns.PatternTriple.{PatternTriple}
-use Rattle.jrql_ast.specs.FilterMeaning.{compares_so, side_value, holds}
-use Rattle.jrql_ast.specs.Solutions.{agree, matches_from, value_of}
+use Rattle.jrql_ast.specs.FilterMeaning.{side_value}
+use Rattle.jrql_ast.specs.Solutions.{agree, matches_from}
 use Rattle.jrql_eval.specs.declared.plans.Stage.{Stage}
 
 -- what becomes of a row where something is bound in it: it agrees, and is then this row, or it doesn't
@@ -21,38 +19,9 @@ abbrev pub IsBinding : Option (List (Option Term)) → Bool → List (Option Ter
 IsBinding None agreed row = agreed ≡ false
 IsBinding (Some bound) agreed row = (agreed ≡ true) × (row ≡ bound)
 
--- a row in which what is bound in another has its value
-pub record Extends (row next : List (Option Term)) : Type 0 where
-  pub places : length next ≡ length row
-  pub each : (variable : ℕ) (x : Term) → value_of variable row ≡ Some x → value_of variable next ≡ Some x
-
--- the row once a variable is unbound, where it has no value elsewhere
-abbrev pub unbound_as : Option Term → ℕ → List (Option Term) → List (Option Term)
-unbound_as None variable row = slice_set row variable None
-unbound_as (Some x) variable row = row
-
 -- the triple has the parts that are given
 abbrev pub has_parts : Option (List ℕ) → Option (List ℕ) → Option Term → Triple → Bool
 has_parts s p o triple = has_iri s triple.s && (has_iri p triple.p && is_term o triple.o)
-
--- the IRI that is known of a subject or a predicate, where one is: none at all, where it would be a literal
-abbrev pub iri_known : Option Term → Option (Option (List ℕ))
-iri_known None = Some None
-iri_known (Some (terms.Iri iri)) = Some (Some iri)
-iri_known (Some (terms.Literal literal)) = None
-
--- the IRI that a place is
-abbrev pub iri_of_term : Option Term → Option (List ℕ)
-iri_of_term None = None
-iri_of_term (Some (terms.Iri iri)) = Some iri
-iri_of_term (Some (terms.Literal literal)) = None
-
--- the triple of its parts
-abbrev pub triple_at : Option (List ℕ) → Option (List ℕ) → Option Term → Option Triple
-triple_at None p o = None
-triple_at (Some s) None o = None
-triple_at (Some s) (Some p) None = None
-triple_at (Some s) (Some p) (Some o) = Some (record { s = s; p = p; o = o })
 
 -- the triple that a pattern is in a row, where its places are bound to parts of one
 abbrev pub instance_of : PatternTriple → List (Option Term) → Option Triple

@@ -1,98 +1,58 @@
 //! What a pattern's variables become where it is a triple.
-ghost use Rattle.std.specs.Prelude.{◌≡◌, IfOk};
-ghost use Rattle.std.specs.Option.{option_copied};
-ghost use Rattle.rdf_terms.specs.declared.terms.Term.TheVariants as terms;
-ghost use Rattle.jrql_ast.specs.FilterMeaning.{side_value};
-ghost use Rattle.jrql_ast.specs.Solutions.{value_of, bind, bind_from, agree, is_same_term};
+ghost use Rattle.std.specs.Prelude.{◌≡◌, Some, IsSome, length};
+ghost use Rattle.rdf_terms.specs.declared.terms.Term.{Term};
+ghost use Rattle.rdf_terms.specs.declared.terms.Triple.{Triple};
+ghost use Rattle.graph_index.specs.Numbered.{term_numbered, triple_numbered};
+ghost use Rattle.jrql_ast.specs.Solutions.{bind, agree, is_same_term};
 ghost use Rattle.jrql_eval.specs.Evaluating.{IsBinding};
 
+use crate::bindings::Bindings;
+use graph_index::{Graph, TermNumbers};
 use jrql_ast::{PatternTriple, Slot};
-use jrql_filters::value_at;
-use rdf_terms::{Iri, Term, Triple};
-use std::alloc::AllocError;
+use rdf_terms::Term;
 
-// Whether a slot may be a term in a row. Where its variable was unbound, it has the term then.
-fn bind_slot(slot: &Slot, term: &Term, row: &mut Vec<Option<Term>>) -> Result<bool, AllocError>
-    ensures { IfOk result (λ agreed. IsBinding (bind slot.now term.now row.old.items) agreed row.new.items) }
+// Whether a term is the one that has a number.
+fn is_numbered(graph: &Graph, number: u32, given: &Term) -> bool
+    ensures { (term : Term) → term_numbered graph.now number ≡ Some term → result ≡ is_same_term given.now term }
+{
+    match graph.term(number) {
+        Some(term) => given == term,
+        None => false,
+    }
+}
+
+// Whether a slot may be the term of a number in a row. Where its variable was unbound, it is that term then.
+fn bind_slot(slot: &Slot, number: u32, row: &mut Bindings<'_>) -> bool
+    requires { IsSome (term_numbered row.old.graph number) }
+    ensures graph { row.new.graph ≡ row.old.graph }
+    ensures places { length row.new.row ≡ length row.old.row }
+    ensures bound { (term : Term) → term_numbered row.old.graph number ≡ Some term
+        → IsBinding (bind slot.now term row.old.row) result row.new.row }
 {
     match slot {
-        Slot::Term(given) => Ok(given == term),
-        Slot::Var(variable) => bind_variable(*variable as usize, term, row),
-        Slot::Fresh(_) => Ok(false),
+        Slot::Term(given) => is_numbered(row.graph(), number, given),
+        Slot::Var(variable) => row.bind(*variable as usize, number),
+        Slot::Fresh(_) => false,
     }
 }
 
-// The same of a variable.
-fn bind_variable(
-    variable: usize,
-    term: &Term,
-    row: &mut Vec<Option<Term>>,
-) -> Result<bool, AllocError>
-    ensures { IfOk result (λ agreed.
-        IsBinding (bind_from (value_of variable row.old.items) variable term.now row.old.items) agreed row.new.items) }
-{
-    if let Some(bound) = value_at(variable, row) {
-        return Ok(bound == term);
-    }
-    if variable < row.len() {
-        row[variable] = Some(term.share()?);
-    }
-    Ok(true)
-}
-
-// Whether a term is an IRI.
-#[tactic(auto, using(crate::proofs::IriTerms::same_iris, crate::proofs::IriTerms::literal_differs))]
-fn is_iri(term: &Term, iri: &Iri) -> bool
-    ensures { result ≡ is_same_term term.now (terms.Iri iri.now) }
-{
-    match term {
-        Term::Iri(own) => own == iri,
-        Term::Literal(_) => false,
-    }
-}
-
-// Whether a slot may be an IRI in a row. Where its variable was unbound, it has the IRI then.
-fn bind_iri(slot: &Slot, iri: &Iri, row: &mut Vec<Option<Term>>) -> Result<bool, AllocError>
-    ensures { IfOk result (λ agreed. IsBinding (bind slot.now (terms.Iri iri.now) row.old.items) agreed row.new.items) }
-{
-    match slot {
-        Slot::Term(given) => Ok(is_iri(given, iri)),
-        Slot::Var(variable) => bind_variable_iri(*variable as usize, iri, row),
-        Slot::Fresh(_) => Ok(false),
-    }
-}
-
-// The same of a variable.
-fn bind_variable_iri(
-    variable: usize,
-    iri: &Iri,
-    row: &mut Vec<Option<Term>>,
-) -> Result<bool, AllocError>
-    ensures { IfOk result (λ agreed. IsBinding (bind_from (value_of variable row.old.items) variable (terms.Iri iri.now)
-        row.old.items) agreed row.new.items) }
-{
-    if let Some(bound) = value_at(variable, row) {
-        return Ok(is_iri(bound, iri));
-    }
-    if variable < row.len() {
-        row[variable] = Some(Term::Iri(iri.share()?));
-    }
-    Ok(true)
-}
-
-/// Whether a pattern may be a triple in a row. Its variables have their values then.
+/// Whether a pattern may be the triple of these numbers in a row. Its variables have their values then.
 pub(crate) fn bind_pattern(
     pattern: &PatternTriple,
-    triple: &Triple,
-    row: &mut Vec<Option<Term>>,
-) -> Result<bool, AllocError>
-    ensures { IfOk result (λ agreed. IsBinding (agree pattern.now triple.now row.old.items) agreed row.new.items) }
+    numbers: &TermNumbers,
+    row: &mut Bindings<'_>,
+) -> bool
+    requires { IsSome (triple_numbered row.old.graph numbers.now) }
+    ensures graph { row.new.graph ≡ row.old.graph }
+    ensures places { length row.new.row ≡ length row.old.row }
+    ensures bound { (triple : Triple) → triple_numbered row.old.graph numbers.now ≡ Some triple
+        → IsBinding (agree pattern.now triple row.old.row) result row.new.row }
 {
-    if !bind_iri(&pattern.s, &triple.s, row)? {
-        return Ok(false);
+    if !bind_slot(&pattern.s, numbers.s, row) {
+        return false;
     }
-    if !bind_iri(&pattern.p, &triple.p, row)? {
-        return Ok(false);
+    if !bind_slot(&pattern.p, numbers.p, row) {
+        return false;
     }
-    bind_slot(&pattern.o, &triple.o, row)
+    bind_slot(&pattern.o, numbers.o, row)
 }

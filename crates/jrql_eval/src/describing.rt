@@ -10,13 +10,16 @@ ghost use Rattle.jrql_ast.specs.InForm.{IsQueryInForm};
 ghost use Rattle.jrql_ast.specs.QueryAnswers.{IsAnswer, IsSortingOf, found, solution_limit};
 ghost use Rattle.tree_clock.specs.Lists.{IsAscending};
 ghost use Rattle.jrql_eval.specs.Asked.{AsksSubjects, IsDescribedBy, all_targeted, bound_iris, described_by, described_where};
+ghost use Rattle.jrql_eval.specs.KeptValues.{rows_numbered};
 
+use crate::bindings::number_at;
 use crate::faults::EvalFault;
+use crate::kept::no_rows;
+use crate::rows::term_of;
 use crate::scanning::{iri_of, triples_with};
 use crate::solving::find_rows;
 use graph_index::Graph;
-use jrql_ast::{Answer, Described, Query, Row, Sequence, Target, What};
-use jrql_filters::value_at;
+use jrql_ast::{Answer, Described, Query, Sequence, Target, What};
 use rdf_terms::{Iri, Triple, cmp_iris, cmp_triples};
 use std::alloc::{AllocError, Global};
 
@@ -35,13 +38,14 @@ fn add_iri<'a>(iris: &mut Vec<&'a Iri>, iri: Option<&'a Iri>) -> Result<(), Allo
 fn add_bound<'a>(
     iris: &mut Vec<&'a Iri>,
     variable: usize,
-    rows: &'a [Row],
+    graph: &'a Graph,
+    rows: &[Vec<Option<u32>>],
 ) -> Result<(), AllocError>
-    ensures { OnOk result
-        (map (λ x. x.now) iris.new.items ≡ map (λ x. x.now) iris.old.items ++ bound_iris variable rows.now) }
+    ensures { OnOk result (map (λ x. x.now) iris.new.items
+        ≡ map (λ x. x.now) iris.old.items ++ bound_iris variable (rows_numbered graph.now rows.now)) }
 {
     for row in rows {
-        add_iri(iris, iri_of(value_at(variable, row.as_slice())))?;
+        add_iri(iris, iri_of(term_of(graph, number_at(variable, row))))?;
     }
     Ok(())
 }
@@ -49,16 +53,18 @@ fn add_bound<'a>(
 // The IRIs that targets name or have in rows.
 fn targeted<'a>(
     alloc: Global,
+    graph: &'a Graph,
     targets: &'a [Target],
-    rows: &'a [Row],
+    rows: &[Vec<Option<u32>>],
 ) -> Result<Vec<&'a Iri>, AllocError>
-    ensures { IfOk result (λ iris. map (λ x. x.now) iris.items ≡ all_targeted rows.now targets.now) }
+    ensures { IfOk result (λ iris. map (λ x. x.now) iris.items
+        ≡ all_targeted (rows_numbered graph.now rows.now) targets.now) }
 {
     let mut iris = Vec::new(alloc);
     for target in targets {
         match target {
             Target::Iri(iri) => iris.push(iri)?,
-            Target::Var(variable) => add_bound(&mut iris, *variable as usize, rows)?,
+            Target::Var(variable) => add_bound(&mut iris, *variable as usize, graph, rows)?,
         }
     }
     Ok(iris)
@@ -143,11 +149,12 @@ fn describe_targets(
     alloc: Global,
     graph: &Graph,
     targets: &[Target],
-    rows: &[Row],
+    rows: &[Vec<Option<u32>>],
 ) -> Result<Vec<Described>, AllocError>
-    ensures { IfOk result (λ subjects. IsDescribedBy (present graph.now.pairs) rows.now targets.now subjects.items) }
+    ensures { IfOk result (λ subjects. IsDescribedBy (present graph.now.pairs) (rows_numbered graph.now rows.now)
+        targets.now subjects.items) }
 {
-    let mut iris = targeted(alloc, targets, rows)?;
+    let mut iris = targeted(alloc, graph, targets, rows)?;
     put_iris(&mut iris);
     describe_all(alloc, graph, &iris)
 }
@@ -166,7 +173,8 @@ pub fn describe(alloc: Global, graph: &Graph, query: &Query) -> Result<Answer, E
     let What::Describe(targets) = &query.what else {
         unreachable!()
     };
-    let rows = find_rows(alloc, graph, &query.group)?;
-    let subjects = describe_targets(alloc, graph, targets.as_slice(), &rows)?;
+    let mut kept = no_rows(alloc, graph, None, true);
+    find_rows(alloc, &query.group, &mut kept)?;
+    let subjects = describe_targets(alloc, graph, targets.as_slice(), &kept.rows)?;
     Ok(Answer::Subjects(Sequence::from_vec(subjects)))
 }

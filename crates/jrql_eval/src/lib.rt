@@ -2,10 +2,12 @@
 #![tactic(auto)]
 
 mod binding;
+mod bindings;
 mod columns;
 mod describing;
 mod effects;
 mod faults;
+mod kept;
 mod limits;
 mod plans;
 mod rows;

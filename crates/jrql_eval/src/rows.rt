@@ -1,28 +1,20 @@
-//! Rows: a value, where there is one, for each variable.
-ghost use Rattle.std.specs.Prelude.{◌≡◌, None, IfOk, replicate};
+//! Rows by numbers: for each variable the number of its term, where it has one.
+ghost use Rattle.std.specs.Prelude.{◌≡◌, IfOk};
 ghost use Rattle.std.specs.Cmp.Lexicographic.{slice_cmp};
-ghost use Rattle.std.specs.Option.{option_copied};
-ghost use Rattle.jrql_ast.specs.QueryAnswers.{place_cmp, project, reply_place_cmp, row_cmp};
-ghost use Rattle.jrql_ast.specs.Solutions.{value_of};
+ghost use Rattle.std.specs.Option.{option_and_then, option_copied};
+ghost use Rattle.graph_index.specs.Numbered.{term_numbered};
+ghost use Rattle.jrql_ast.specs.QueryAnswers.{place_cmp, reply_place_cmp, row_cmp};
+ghost use Rattle.jrql_eval.specs.Bindings.{row_numbered};
+ghost use Rattle.jrql_eval.specs.KeptValues.{rows_numbered};
 
+use crate::bindings::number_at;
+use graph_index::Graph;
 use jrql_ast::Row;
-use jrql_filters::value_at;
 use rdf_terms::{Term, cmp_reply};
 use std::alloc::{AllocError, Global};
 use std::cmp::Ordering;
 
-/// A row of so many places in which no variable is bound.
-pub(crate) fn unbound_row(alloc: Global, variables: usize) -> Result<Vec<Option<Term>>, AllocError>
-    ensures { IfOk result (λ row. row.items ≡ replicate variables None) }
-{
-    let mut row = Vec::new(alloc);
-    for _ in 0..variables {
-        row.push(None)?;
-    }
-    Ok(row)
-}
-
-/// A copy of a value, which shares the texts of its term.
+// A copy of a value, which shares the texts of its term.
 fn share_value(value: Option<&Term>) -> Result<Option<Term>, AllocError>
     ensures { IfOk result (λ copy. copy ≡ option_copied value.entry) }
 {
@@ -32,34 +24,48 @@ fn share_value(value: Option<&Term>) -> Result<Option<Term>, AllocError>
     }
 }
 
-/// A copy of a row.
-pub(crate) fn copy_row(alloc: Global, row: &[Option<Term>]) -> Result<Vec<Option<Term>>, AllocError>
-    ensures { IfOk result (λ copy. copy.items ≡ row.now) }
+/// The term of a number, where there is one.
+pub(crate) fn term_of(graph: &Graph, number: Option<u32>) -> Option<&Term>
+    ensures { option_copied result ≡ option_and_then (term_numbered graph.now) number }
 {
-    let mut copy = Vec::with_capacity(alloc, row.len())?;
-    for value in row {
-        copy.push(share_value(value.as_ref())?)?;
+    match number {
+        Some(number) => graph.term(number),
+        None => None,
     }
-    Ok(copy)
 }
 
-/// What a row has for these variables.
-pub(crate) fn project(
+/// The row of these numbers, which shares the texts of its terms.
+pub(crate) fn make_row(
     alloc: Global,
-    variables: &[u16],
-    row: &[Option<Term>],
+    graph: &Graph,
+    numbers: &[Option<u32>],
 ) -> Result<Row, AllocError>
-    ensures { IfOk result (λ values. values ≡ project variables.now row.now) }
+    ensures { IfOk result (λ row. row ≡ row_numbered graph.now numbers.now) }
 {
-    let mut values = Vec::with_capacity(alloc, variables.len())?;
-    for variable in variables {
-        values.push(share_value(value_at(*variable as usize, row))?)?;
+    let mut row = Vec::with_capacity(alloc, numbers.len())?;
+    for number in numbers {
+        row.push(share_value(term_of(graph, *number))?)?;
     }
-    Ok(Row::from_vec(values))
+    Ok(Row::from_vec(row))
 }
 
-/// Compares two places in the plain order: an unbound one comes before every term.
-fn cmp_places(place: Option<&Term>, other: Option<&Term>) -> Ordering
+/// The rows of these lists of numbers.
+pub(crate) fn make_rows(
+    alloc: Global,
+    graph: &Graph,
+    rows: &[Vec<Option<u32>>],
+) -> Result<Vec<Row>, AllocError>
+    ensures { IfOk result (λ made. made.items ≡ rows_numbered graph.now rows.now) }
+{
+    let mut made = Vec::with_capacity(alloc, rows.len())?;
+    for numbers in rows {
+        made.push(make_row(alloc, graph, numbers)?)?;
+    }
+    Ok(made)
+}
+
+// Compares two places in the plain order: an unbound one comes before every term.
+fn cmp_terms(place: Option<&Term>, other: Option<&Term>) -> Ordering
     ensures { result ≡ place_cmp (option_copied place.entry) (option_copied other.entry) }
 {
     match (place, other) {
@@ -70,26 +76,36 @@ fn cmp_places(place: Option<&Term>, other: Option<&Term>) -> Ordering
     }
 }
 
+// The same of the terms of numbers. Where the numbers are the same, it looks at no term.
+fn cmp_places(graph: &Graph, number: Option<u32>, other: Option<u32>) -> Ordering
+    ensures { result ≡ place_cmp (option_and_then (term_numbered graph.now) number)
+        (option_and_then (term_numbered graph.now) other) }
+{
+    if number == other {
+        Ordering::Equal
+    } else {
+        cmp_terms(term_of(graph, number), term_of(graph, other))
+    }
+}
+
 /// Compares two rows in the plain order, by their places, from the first.
-pub(crate) fn cmp_rows(row: &[Option<Term>], other: &[Option<Term>]) -> Ordering
-    ensures { result ≡ slice_cmp place_cmp row.now other.now }
+pub(crate) fn cmp_rows(graph: &Graph, row: &[Option<u32>], other: &[Option<u32>]) -> Ordering
+    ensures { result ≡ slice_cmp place_cmp (row_numbered graph.now row.now) (row_numbered graph.now other.now) }
 {
     match (row.split_first(), other.split_first()) {
         (None, None) => Ordering::Equal,
         (None, Some(_)) => Ordering::Less,
         (Some(_), None) => Ordering::Greater,
-        (Some((place, rest)), Some((with, others))) => {
-            match cmp_places(place.as_ref(), with.as_ref()) {
-                Ordering::Less => Ordering::Less,
-                Ordering::Equal => cmp_rows(rest, others),
-                Ordering::Greater => Ordering::Greater,
-            }
-        }
+        (Some((place, rest)), Some((with, others))) => match cmp_places(graph, *place, *with) {
+            Ordering::Less => Ordering::Less,
+            Ordering::Equal => cmp_rows(graph, rest, others),
+            Ordering::Greater => Ordering::Greater,
+        },
     }
 }
 
-/// Compares two places in the order of replies: an unbound one comes before every term.
-fn cmp_reply_places(place: Option<&Term>, other: Option<&Term>) -> Ordering
+// Compares two places in the order of replies: an unbound one comes before every term.
+fn cmp_reply_terms(place: Option<&Term>, other: Option<&Term>) -> Ordering
     ensures { result ≡ reply_place_cmp (option_copied place.entry) (option_copied other.entry) }
 {
     match (place, other) {
@@ -100,18 +116,30 @@ fn cmp_reply_places(place: Option<&Term>, other: Option<&Term>) -> Ordering
     }
 }
 
+// The same of the terms of numbers. Where the numbers are the same, it looks at no term.
+fn cmp_reply_places(graph: &Graph, number: Option<u32>, other: Option<u32>) -> Ordering
+    ensures { result ≡ reply_place_cmp (option_and_then (term_numbered graph.now) number)
+        (option_and_then (term_numbered graph.now) other) }
+{
+    if number == other {
+        Ordering::Equal
+    } else {
+        cmp_reply_terms(term_of(graph, number), term_of(graph, other))
+    }
+}
+
 /// Compares two rows in the order of replies, by their places, from the first.
-pub(crate) fn cmp_reply_rows(row: &[Option<Term>], other: &[Option<Term>]) -> Ordering
-    ensures { result ≡ slice_cmp reply_place_cmp row.now other.now }
+pub(crate) fn cmp_reply_rows(graph: &Graph, row: &[Option<u32>], other: &[Option<u32>]) -> Ordering
+    ensures { result ≡ slice_cmp reply_place_cmp (row_numbered graph.now row.now) (row_numbered graph.now other.now) }
 {
     match (row.split_first(), other.split_first()) {
         (None, None) => Ordering::Equal,
         (None, Some(_)) => Ordering::Less,
         (Some(_), None) => Ordering::Greater,
         (Some((place, rest)), Some((with, others))) => {
-            match cmp_reply_places(place.as_ref(), with.as_ref()) {
+            match cmp_reply_places(graph, *place, *with) {
                 Ordering::Less => Ordering::Less,
-                Ordering::Equal => cmp_reply_rows(rest, others),
+                Ordering::Equal => cmp_reply_rows(graph, rest, others),
                 Ordering::Greater => Ordering::Greater,
             }
         }
@@ -119,16 +147,21 @@ pub(crate) fn cmp_reply_rows(row: &[Option<Term>], other: &[Option<Term>]) -> Or
 }
 
 /// Compares two rows in the plain order, by their values for these variables, from the first.
-pub(crate) fn cmp_by(variables: &[u16], row: &[Option<Term>], other: &[Option<Term>]) -> Ordering
-    ensures { result ≡ row_cmp variables.now row.now other.now }
+pub(crate) fn cmp_by(
+    graph: &Graph,
+    variables: &[u16],
+    row: &[Option<u32>],
+    other: &[Option<u32>],
+) -> Ordering
+    ensures { result ≡ row_cmp variables.now (row_numbered graph.now row.now) (row_numbered graph.now other.now) }
 {
     match variables.split_first() {
         None => Ordering::Equal,
         Some((variable, rest)) => {
             let place = *variable as usize;
-            match cmp_places(value_at(place, row), value_at(place, other)) {
+            match cmp_places(graph, number_at(place, row), number_at(place, other)) {
                 Ordering::Less => Ordering::Less,
-                Ordering::Equal => cmp_by(rest, row, other),
+                Ordering::Equal => cmp_by(graph, rest, row, other),
                 Ordering::Greater => Ordering::Greater,
             }
         }

@@ -1,8 +1,8 @@
 //! Which triples of a graph a pattern may be.
-ghost use Rattle.std.specs.Prelude.{◌≡◌, ◌∷◌, ◌++◌, [], ◌<◌, List, IfOk, map, if◌then◌else◌};
+ghost use Rattle.std.specs.Prelude.{◌≡◌, ◌∷◌, ◌++◌, [], ◌<◌, List, None, IfOk, IfSome, IfNone, IsSome, map, if◌then◌else◌};
 ghost use Rattle.std.specs.List.{All, dedup, filter, filter_map};
 ghost use Rattle.std.specs.List.Sorted.{IsPermutation};
-ghost use Rattle.std.specs.Option.{option_copied, option_map};
+ghost use Rattle.std.specs.Option.{option_copied};
 ghost use Rattle.std.specs.Ordering.{eq_by_cmp};
 ghost use Rattle.graph_index.specs.Matching.{FindsEach, StandTogether, matches};
 ghost use Rattle.mld_ops.specs.Present.{present};
@@ -13,11 +13,13 @@ ghost use Rattle.mld_ops.specs.declared.tagged.Tagged.{Tagged};
 ghost use Rattle.jrql_ast.specs.declared.patterns.PatternTriple.{PatternTriple};
 ghost use Rattle.jrql_ast.specs.FilterMeaning.{side_value};
 ghost use Rattle.jrql_ast.specs.Solutions.{agree, matches_from};
-ghost use Rattle.jrql_eval.specs.Evaluating.{IsBoundIn, has_parts, instance_of, iri_known, iri_of_term};
+ghost use Rattle.graph_index.specs.Numbered.{iri_of_term, term_numbered, AreAllNumbered, FindsNumbered};
+ghost use Rattle.jrql_eval.specs.Bindings.{IsPlaceOf, FindsFor};
+ghost use Rattle.jrql_eval.specs.Evaluating.{IsBoundIn, has_parts};
 
-use graph_index::{Graph, Steps};
+use crate::bindings::Bindings;
+use graph_index::{Graph, Places, Steps, TermNumbers};
 use jrql_ast::{PatternTriple, Slot};
-use jrql_filters::term_at;
 use mld_ops::Tagged;
 use rdf_terms::{Iri, Term, Triple, cmp_triples};
 use std::alloc::{AllocError, Global};
@@ -82,38 +84,73 @@ pub(crate) fn triples_with<'a>(
     Ok(triples)
 }
 
-// The IRI that is known of a slot, where one is; none at all, where it would be a literal.
-fn known_iri<'a>(slot: &'a Slot, row: &'a [Option<Term>]) -> Option<Option<&'a Iri>>
-    ensures { option_map (λ given. option_copied given) result ≡ iri_known (side_value slot.now row.now) }
+// The number that is wanted of a place, where it is a term or bound; none at all, where it is a term without a number.
+fn place_of(slot: &Slot, row: &Bindings<'_>) -> Option<Option<u32>>
+    ensures place { IsPlaceOf row.now.graph (side_value slot.now row.now.row) result }
+    ensures all { IfNone result (AreAllNumbered row.now.graph) }
 {
-    match term_at(slot, row) {
-        None => Some(None),
-        Some(Term::Iri(iri)) => Some(Some(iri)),
-        Some(Term::Literal(_)) => None,
+    match slot {
+        Slot::Term(term) => match row.graph().number(term) {
+            Some(number) => Some(Some(number)),
+            None => None,
+        },
+        Slot::Var(variable) => Some(row.number(*variable as usize)),
+        Slot::Fresh(_) => Some(None),
     }
 }
 
-/// The triples that a pattern may be in a row, in whatever order.
-pub(crate) fn triples_for<'a>(
-    alloc: Global,
-    graph: &'a Graph,
-    pattern: &PatternTriple,
-    row: &[Option<Term>],
-) -> Result<Vec<&'a Triple>, AllocError>
-    ensures { IfOk result (λ triples. IsPermutation
-        (filter_map (λ triple. agree pattern.now triple row.now) (present graph.now.pairs))
-        (filter_map (λ triple. agree pattern.now triple row.now) (map (λ x. x.now) triples.items))) }
+// A number as one that is wanted.
+fn wanted(number: Option<u32>) -> Option<u64>
+    ensures { result ≡ number }
 {
-    let subject = known_iri(&pattern.s, row);
+    match number {
+        Some(number) => Some(u64::from(number)),
+        None => None,
+    }
+}
+
+// The triples that have these numbers, with steps that are counted in a ledger of their own.
+fn triples_in<L: Ledger>(
+    alloc: Global,
+    graph: &Graph,
+    wanted: &Places,
+    blank: Blank,
+) -> Result<Vec<TermNumbers>, AllocError>
+    requires name { blank.name ≡ L.name }
+    requires parts { blank.parts ≡ L.parts }
+    requires some { 0 < L.parts }
+    ensures { IfOk result (λ found. FindsNumbered graph.now wanted.now found.items) }
+{
+    let mut steps = Steps::<L>::new(blank);
+    graph.triples(alloc, wanted, &mut steps)
+}
+
+/// The triples that a pattern may be in a row, and maybe others, by the numbers of their terms, in whatever order.
+pub(crate) fn triples_for(
+    alloc: Global,
+    pattern: &PatternTriple,
+    row: &Bindings<'_>,
+) -> Result<Vec<TermNumbers>, AllocError>
+    ensures { IfOk result (λ found. FindsFor pattern.now row.now found.items) }
+{
+    let subject = place_of(&pattern.s, row);
     let Some(s) = subject else {
         return Ok(Vec::new(alloc));
     };
-    let predicate = known_iri(&pattern.p, row);
+    let predicate = place_of(&pattern.p, row);
     let Some(p) = predicate else {
         return Ok(Vec::new(alloc));
     };
-    let object = term_at(&pattern.o, row);
-    triples_with(alloc, graph, s, p, object)
+    let object = place_of(&pattern.o, row);
+    let Some(o) = object else {
+        return Ok(Vec::new(alloc));
+    };
+    let places = Places {
+        s: wanted(s),
+        p: wanted(p),
+        o: wanted(o),
+    };
+    triples_in::<Brand>(alloc, row.graph(), &places, Blank::new(1))
 }
 
 /// The IRI that a place is, where it is one.
@@ -127,56 +164,52 @@ pub(crate) fn iri_of<'a>(known: Option<&'a Term>) -> Option<&'a Iri>
     }
 }
 
-// The triple that a pattern is in a row, where its places are bound to parts of one.
-fn instance(pattern: &PatternTriple, row: &[Option<Term>]) -> Result<Option<Triple>, AllocError>
-    ensures { IfOk result (λ triple. triple ≡ instance_of pattern.now row.now) }
+// The number of the term that a place is, where it has one.
+fn number_in(slot: &Slot, row: &Bindings<'_>) -> Option<u32>
+    requires { IsSome (side_value slot.now row.now.row) }
+    ensures some { IfSome result (λ number. term_numbered row.now.graph number ≡ side_value slot.now row.now.row) }
+    ensures none { IfNone result (IsPlaceOf row.now.graph (side_value slot.now row.now.row) None) }
+    ensures all { IfNone result (AreAllNumbered row.now.graph) }
 {
-    let Some(s) = iri_of(term_at(&pattern.s, row)) else {
-        return Ok(None);
-    };
-    let Some(p) = iri_of(term_at(&pattern.p, row)) else {
-        return Ok(None);
-    };
-    let Some(o) = term_at(&pattern.o, row) else {
-        return Ok(None);
-    };
-    let s = s.share()?;
-    let p = p.share()?;
-    let o = o.share()?;
-    Ok(Some(Triple { s, p, o }))
+    match place_of(slot, row) {
+        Some(number) => number,
+        None => None,
+    }
 }
 
 // Whether a pattern of which all places are bound is a triple of the graph.
-fn is_present(
-    graph: &Graph,
-    pattern: &PatternTriple,
-    row: &[Option<Term>],
-) -> Result<bool, AllocError>
-    requires { IsBoundIn row.now pattern.now }
-    ensures { IfOk result (λ there. filter_map (λ triple. agree pattern.now triple row.now) (present graph.now.pairs)
-        ≡ (if there then row.now ∷ [] else [])) }
+fn is_present(pattern: &PatternTriple, row: &Bindings<'_>) -> bool
+    requires { IsBoundIn row.now.row pattern.now }
+    ensures { filter_map (λ triple. agree pattern.now triple row.now.row) (present row.now.graph.pairs)
+        ≡ (if result then row.now.row ∷ [] else []) }
 {
-    match instance(pattern, row)? {
-        Some(triple) => Ok(graph.has_triple(&triple)),
-        None => Ok(false),
-    }
+    let subject = number_in(&pattern.s, row);
+    let Some(s) = subject else {
+        return false;
+    };
+    let predicate = number_in(&pattern.p, row);
+    let Some(p) = predicate else {
+        return false;
+    };
+    let object = number_in(&pattern.o, row);
+    let Some(o) = object else {
+        return false;
+    };
+    let numbers = TermNumbers { s, p, o };
+    row.graph().has_numbers(&numbers)
 }
 
-/// Whether patterns of which all places are bound are all triples of the graph.
-pub(crate) fn are_present(
-    graph: &Graph,
-    patterns: &[&PatternTriple],
-    row: &[Option<Term>],
-) -> Result<bool, AllocError>
-    requires { All (λ pattern. IsBoundIn row.now pattern.now) patterns.now }
-    ensures { IfOk result (λ there. (rest : List PatternTriple)
-        → matches_from (present graph.now.pairs) (map (λ x. x.now) patterns.now ++ rest) row.now
-        ≡ (if there then matches_from (present graph.now.pairs) rest row.now else [])) }
+/// Whether patterns of which all places are bound are all triples of the graph. It takes no memory.
+pub(crate) fn are_present(patterns: &[&PatternTriple], row: &Bindings<'_>) -> bool
+    requires { All (λ pattern. IsBoundIn row.now.row pattern.now) patterns.now }
+    ensures { (rest : List PatternTriple)
+        → matches_from (present row.now.graph.pairs) (map (λ x. x.now) patterns.now ++ rest) row.now.row
+        ≡ (if result then matches_from (present row.now.graph.pairs) rest row.now.row else []) }
 {
     for pattern in patterns {
-        if !is_present(graph, pattern, row)? {
-            return Ok(false);
+        if !is_present(pattern, row) {
+            return false;
         }
     }
-    Ok(true)
+    true
 }

@@ -1,94 +1,62 @@
 //! Rows, found stage by stage, depth first, so that the rows alone take memory.
-ghost use Rattle.std.specs.Prelude.{◌≡◌, ◌<◌, ◌≤◌, Some, ◌++◌, ◌∷◌, [], length, map, if◌then◌else◌, OnOk};
-ghost use Rattle.std.specs.List.{flat_map};
+ghost use Rattle.std.specs.Prelude.{◌≡◌, ◌≤◌, Some, IsSome, ◌∷◌, [], if◌then◌else◌, OnOk};
+ghost use Rattle.std.specs.List.{All, flat_map};
+ghost use Rattle.graph_index.specs.Numbered.{triple_numbered};
 ghost use Rattle.jrql_ast.specs.QueryAnswers.{solution_limit};
-ghost use Rattle.jrql_ast.specs.Solutions.{agree, value_of};
 ghost use Rattle.mld_ops.specs.Present.{present};
-ghost use Rattle.jrql_eval.specs.Evaluating.{AreReady, AreTestsOf, Extends, IsReadyBehind, all_hold, unbound_as, led_to, led_from};
-ghost use Rattle.jrql_eval.specs.AddedRows.{AddsRows, AddsInAnyOrder};
+ghost use Rattle.jrql_eval.specs.Evaluating.{AreReady, AreTestsOf, IsReadyBehind, all_hold, led_to, led_from};
+ghost use Rattle.jrql_eval.specs.KeptValues.{KeepsFound, agree_numbered};
 
 use crate::binding::bind_pattern;
+use crate::bindings::Bindings;
 use crate::faults::EvalFault;
-use crate::limits::SOLUTION_LIMIT;
+use crate::kept::{Kept, keep};
 use crate::plans::Stage;
-use crate::rows::copy_row;
 use crate::scanning::{are_present, triples_for};
-use graph_index::Graph;
-use jrql_ast::{Filter, Row};
-use jrql_filters::{all_can_hold, all_hold, value_at};
-use rdf_terms::{Term, Triple};
-use std::alloc::{AllocError, Global};
+use graph_index::TermNumbers;
+use jrql_ast::Filter;
+use jrql_filters::{all_can_hold, all_hold};
+use std::alloc::Global;
 
-// Adds a copy of a row.
-fn keep_row(alloc: Global, row: &[Option<Term>], rows: &mut Vec<Row>) -> Result<(), AllocError>
-    ensures { OnOk result (rows.new.items ≡ rows.old.items ++ row.now ∷ []) }
-{
-    rows.push(Row::from_vec(copy_row(alloc, row)?))?;
-    Ok(())
-}
-
-// Adds a row for which every filter holds.
-fn add_row(
+// Keeps a row for which every filter holds.
+fn keep_if(
     alloc: Global,
     filters: &[Filter],
-    row: &[Option<Term>],
-    rows: &mut Vec<Row>,
+    row: &Bindings<'_>,
+    kept: &mut Kept<'_>,
 ) -> Result<(), EvalFault>
-    requires { length rows.old.items ≤ solution_limit }
-    ensures { AddsRows rows.old.items (if all_hold filters.now row.now then row.now ∷ [] else []) result
-        rows.new.items }
+    requires graphs { row.now.graph ≡ kept.old.graph.now }
+    requires few { kept.old.count ≤ solution_limit }
+    ensures { KeepsFound kept.old (if all_hold filters.now row.now.row then row.now.row ∷ [] else []) result kept.new }
 {
-    if !all_hold(filters, row) {
-        return Ok(());
-    }
-    if rows.len() >= SOLUTION_LIMIT {
-        return Err(EvalFault::TooMany);
-    }
-    Ok(keep_row(alloc, row, rows)?)
-}
-
-// Unbinds a variable, where it isn't bound in a row.
-fn unbind_at(place: usize, row: &[Option<Term>], next: &mut Vec<Option<Term>>)
-    requires { place < length next.old.items }
-    ensures { next.new.items ≡ unbound_as (value_of place row.now) place next.old.items }
-{
-    match value_at(place, row) {
-        None => next[place] = None,
-        Some(_) => {}
+    if all_hold(filters, row) {
+        keep(alloc, row, kept)
+    } else {
+        Ok(())
     }
 }
 
-// Unbinds all that isn't bound in a row.
-fn unbind(row: &[Option<Term>], next: &mut Vec<Option<Term>>)
-    requires { Extends row.now next.old.items }
-    ensures { next.new.items ≡ row.now }
-{
-    for place in 0..row.len() {
-        unbind_at(place, row, next);
-    }
-}
-
-/// Adds the rows that stages lead to from a row, and for which every filter holds, in whatever order.
+/// Keeps the rows that stages lead to from a row, and for which every filter holds, in whatever order.
 #[cycle(search)]
 pub(crate) fn search(
     alloc: Global,
-    graph: &Graph,
     filters: &[Filter],
     stages: &[Stage<'_>],
-    row: &[Option<Term>],
-    rows: &mut Vec<Row>,
+    row: &Bindings<'_>,
+    kept: &mut Kept<'_>,
 ) -> Result<(), EvalFault>
-    requires ready { AreReady stages.now row.now }
+    requires ready { AreReady stages.now row.now.row }
     requires tests { AreTestsOf filters.now stages.now }
-    requires few { length rows.old.items ≤ solution_limit }
-    ensures { AddsInAnyOrder rows.old.items (led_to (present graph.now.pairs) filters.now stages.now row.now) result
-        rows.new.items }
+    requires graphs { row.now.graph ≡ kept.old.graph.now }
+    requires few { kept.old.count ≤ solution_limit }
+    ensures { KeepsFound kept.old (led_to (present row.now.graph.pairs) filters.now stages.now row.now.row) result
+        kept.new }
 {
     match stages.split_first() {
-        None => add_row(alloc, filters, row, rows),
+        None => keep_if(alloc, filters, row, kept),
         Some((stage, rest)) => {
-            let triples = triples_for(alloc, graph, stage.pattern, row)?;
-            search_each(alloc, graph, filters, stage, rest, &triples, row, rows)
+            let found = triples_for(alloc, stage.pattern, row)?;
+            search_each(alloc, filters, stage, rest, &found, row, kept)
         }
     }
 }
@@ -97,28 +65,26 @@ pub(crate) fn search(
 #[cycle(search)]
 fn search_each(
     alloc: Global,
-    graph: &Graph,
     filters: &[Filter],
     stage: &Stage<'_>,
     rest: &[Stage<'_>],
-    triples: &[&Triple],
-    row: &[Option<Term>],
-    rows: &mut Vec<Row>,
+    found: &[TermNumbers],
+    row: &Bindings<'_>,
+    kept: &mut Kept<'_>,
 ) -> Result<(), EvalFault>
-    requires ready { AreReady (stage.now ∷ rest.now) row.now }
+    requires ready { AreReady (stage.now ∷ rest.now) row.now.row }
     requires tests { AreTestsOf filters.now (stage.now ∷ rest.now) }
-    requires few { length rows.old.items ≤ solution_limit }
-    ensures { AddsInAnyOrder rows.old.items
-        (flat_map (λ triple. led_from (present graph.now.pairs) filters.now stage.now rest.now
-        (agree stage.now.pattern.now triple row.now))
-        (map (λ x. x.now) triples.now))
-        result rows.new.items }
+    requires there { All (λ numbers. IsSome (triple_numbered row.now.graph numbers)) found.now }
+    requires graphs { row.now.graph ≡ kept.old.graph.now }
+    requires few { kept.old.count ≤ solution_limit }
+    ensures { KeepsFound kept.old
+        (flat_map (λ numbers. led_from (present row.now.graph.pairs) filters.now stage.now rest.now
+        (agree_numbered row.now.graph stage.now.pattern.now row.now.row numbers)) found.now)
+        result kept.new }
 {
-    let mut next = copy_row(alloc, row)?;
-    for triple in triples {
-        search_behind(
-            alloc, graph, filters, stage, rest, triple, row, &mut next, rows,
-        )?;
+    let mut next = row.copy(alloc)?;
+    for numbers in found {
+        search_behind(alloc, filters, stage, rest, numbers, row, &mut next, kept)?;
     }
     Ok(())
 }
@@ -127,30 +93,31 @@ fn search_each(
 #[cycle(search)]
 fn search_behind(
     alloc: Global,
-    graph: &Graph,
     filters: &[Filter],
     stage: &Stage<'_>,
     rest: &[Stage<'_>],
-    triple: &Triple,
-    row: &[Option<Term>],
-    next: &mut Vec<Option<Term>>,
-    rows: &mut Vec<Row>,
+    numbers: &TermNumbers,
+    row: &Bindings<'_>,
+    next: &mut Bindings<'_>,
+    kept: &mut Kept<'_>,
 ) -> Result<(), EvalFault>
-    requires ready { AreReady (stage.now ∷ rest.now) row.now }
+    requires ready { AreReady (stage.now ∷ rest.now) row.now.row }
     requires tests { AreTestsOf filters.now (stage.now ∷ rest.now) }
-    requires few { length rows.old.items ≤ solution_limit }
-    requires same { next.old.items ≡ row.now }
-    ensures rows { AddsInAnyOrder rows.old.items (led_from (present graph.now.pairs) filters.now stage.now rest.now
-        (agree stage.now.pattern.now triple.now row.now))
-        result rows.new.items }
-    ensures same { OnOk result (next.new.items ≡ row.now) }
+    requires there { IsSome (triple_numbered row.now.graph numbers.now) }
+    requires graphs { row.now.graph ≡ kept.old.graph.now }
+    requires few { kept.old.count ≤ solution_limit }
+    requires same { next.old ≡ row.now }
+    ensures rows { KeepsFound kept.old (led_from (present row.now.graph.pairs) filters.now stage.now rest.now
+        (agree_numbered row.now.graph stage.now.pattern.now row.now.row numbers.now))
+        result kept.new }
+    ensures same { next.new ≡ row.now }
 {
-    if !bind_pattern(stage.pattern, triple, next)? {
-        *next = copy_row(alloc, row)?;
+    if !bind_pattern(stage.pattern, numbers, next) {
+        next.set_as(row);
         return Ok(());
     }
-    let told = search_bound(alloc, graph, filters, stage, rest, next, rows);
-    unbind(row, next);
+    let told = search_bound(alloc, filters, stage, rest, next, kept);
+    next.set_as(row);
     told
 }
 
@@ -158,23 +125,23 @@ fn search_behind(
 #[cycle(search)]
 fn search_bound(
     alloc: Global,
-    graph: &Graph,
     filters: &[Filter],
     stage: &Stage<'_>,
     rest: &[Stage<'_>],
-    row: &[Option<Term>],
-    rows: &mut Vec<Row>,
+    row: &Bindings<'_>,
+    kept: &mut Kept<'_>,
 ) -> Result<(), EvalFault>
-    requires ready { IsReadyBehind filters.now stage.now rest.now row.now }
-    requires few { length rows.old.items ≤ solution_limit }
-    ensures { AddsInAnyOrder rows.old.items
-        (led_from (present graph.now.pairs) filters.now stage.now rest.now (Some row.now)) result rows.new.items }
+    requires ready { IsReadyBehind filters.now stage.now rest.now row.now.row }
+    requires graphs { row.now.graph ≡ kept.old.graph.now }
+    requires few { kept.old.count ≤ solution_limit }
+    ensures { KeepsFound kept.old
+        (led_from (present row.now.graph.pairs) filters.now stage.now rest.now (Some row.now.row)) result kept.new }
 {
     if !all_can_hold(&stage.tests, row) {
         return Ok(());
     }
-    if !are_present(graph, &stage.checks, row)? {
+    if !are_present(&stage.checks, row) {
         return Ok(());
     }
-    search(alloc, graph, filters, rest, row, rows)
+    search(alloc, filters, rest, row, kept)
 }

@@ -1,55 +1,47 @@
 //! Selects.
-ghost use Rattle.std.specs.Prelude.{◌≡◌, ◌<◌, ◌≤◌, length, map, drop, IfOk, OnOk, IsErrOf};
+ghost use Rattle.std.specs.Prelude.{◌≡◌, ◌<◌, ◌≤◌, length, drop, IfOk, OnOk, IsErrOf};
 ghost use Rattle.std.specs.Cmp.Lexicographic.{slice_cmp};
 ghost use Rattle.mld_ops.specs.Present.{present};
 ghost use Rattle.jrql_ast.specs.InForm.{IsQueryInForm};
-ghost use Rattle.jrql_ast.specs.QueryAnswers.{IsAnswer, IsSortingOf, distinct_rows, found, limited, project, reply_place_cmp, solution_limit};
+ghost use Rattle.jrql_ast.specs.QueryAnswers.{IsAnswer, IsSortingOf, distinct_rows, found, limited, reply_place_cmp, solution_limit};
 ghost use Rattle.jrql_eval.specs.Asked.{AsksRows, IsSelectedOf};
+ghost use Rattle.jrql_eval.specs.KeptValues.{rows_numbered};
 
 use crate::faults::EvalFault;
-use crate::rows::{cmp_reply_rows, cmp_rows, project};
+use crate::kept::no_rows;
+use crate::rows::{cmp_reply_rows, cmp_rows, make_rows};
 use crate::solving::find_rows;
 use graph_index::Graph;
 use jrql_ast::{Answer, Query, Row, Select, Sequence, What};
 use std::alloc::{AllocError, Global};
 
-// What rows have for these variables.
-fn project_all(alloc: Global, variables: &[u16], rows: &[Row]) -> Result<Vec<Row>, AllocError>
-    ensures { IfOk result (λ values. values.items ≡ map (project variables.now) rows.now) }
-{
-    let mut values = Vec::new(alloc);
-    for row in rows {
-        values.push(project(alloc, variables, row.as_slice())?)?;
-    }
-    Ok(values)
-}
-
 // Sorts rows by their values, from the first, in the order of replies.
-fn sort_values(rows: &mut Vec<Row>) -> Result<(), AllocError>
-    ensures { OnOk result (IsSortingOf (slice_cmp reply_place_cmp) rows.old.items rows.new.items) }
+fn sort_values(graph: &Graph, rows: &mut Vec<Vec<Option<u32>>>) -> Result<(), AllocError>
+    ensures { OnOk result (IsSortingOf (slice_cmp reply_place_cmp) (rows_numbered graph.now rows.old.items)
+        (rows_numbered graph.now rows.new.items)) }
 {
-    rows.sort_by(|row, other| cmp_reply_rows(row.as_slice(), other.as_slice()))
+    rows.sort_by(|row, other| cmp_reply_rows(graph, row, other))
 }
 
 // Each row once, where that is asked for.
-fn drop_repeats(distinct: bool, rows: &mut Vec<Row>)
-    ensures { rows.new.items ≡ distinct_rows distinct rows.old.items }
+fn drop_repeats(distinct: bool, graph: &Graph, rows: &mut Vec<Vec<Option<u32>>>)
+    ensures { rows_numbered graph.now rows.new.items ≡ distinct_rows distinct (rows_numbered graph.now rows.old.items) }
 {
     if distinct {
-        rows.dedup_by(|row, other| cmp_rows(row.as_slice(), other.as_slice()).is_eq());
+        rows.dedup_by(|row, other| cmp_rows(graph, row, other).is_eq());
     }
 }
 
 // As many rows as a select asks for, behind as many as it leaves out.
-fn cut(mut rows: Vec<Row>, offset: u64, limit: Option<u64>) -> Result<Vec<Row>, AllocError>
-    ensures { IfOk result (λ kept. kept.items ≡ limited limit (drop offset rows.items)) }
+fn cut(rows: &[Vec<Option<u32>>], offset: u64, limit: Option<u64>) -> &[Vec<Option<u32>>]
+    ensures { result.now ≡ limited limit (drop offset rows.now) }
 {
-    let offset = offset.min(rows.len() as u64) as usize;
-    let mut kept = rows.split_off(offset)?;
-    if let Some(limit) = limit {
-        kept.truncate(limit.min(kept.len() as u64) as usize);
+    let begun = offset.min(rows.len() as u64) as usize;
+    let rest = &rows[begun..];
+    match limit {
+        Some(limit) => &rest[..limit.min(rest.len() as u64) as usize],
+        None => rest,
     }
-    Ok(kept)
 }
 
 /// The answer to a select: what the solutions of its group have for its variables, sorted from the first variable on in the order of
@@ -66,16 +58,22 @@ pub fn select(alloc: Global, graph: &Graph, query: &Query) -> Result<Answer, Eva
     let What::Select(select) = &query.what else {
         unreachable!()
     };
-    let rows = find_rows(alloc, graph, &query.group)?;
-    Ok(Answer::Rows(selected(alloc, select, &rows)?))
+    let mut kept = no_rows(alloc, graph, Some(select.vars.as_slice()), select.distinct);
+    find_rows(alloc, &query.group, &mut kept)?;
+    Ok(Answer::Rows(selected(alloc, graph, select, &mut kept.rows)?))
 }
 
-// What rows have for a select's variables, as it asks for it.
-fn selected(alloc: Global, select: &Select, rows: &[Row]) -> Result<Sequence<Row>, AllocError>
-    ensures { IfOk result (IsSelectedOf select.now rows.now) }
+// Rows of a select's values, as it asks for them.
+fn selected(
+    alloc: Global,
+    graph: &Graph,
+    select: &Select,
+    rows: &mut Vec<Vec<Option<u32>>>,
+) -> Result<Sequence<Row>, AllocError>
+    ensures { IfOk result (IsSelectedOf select.now (rows_numbered graph.now rows.old.items)) }
 {
-    let mut values = project_all(alloc, select.vars.as_slice(), rows)?;
-    sort_values(&mut values)?;
-    drop_repeats(select.distinct, &mut values);
-    Ok(Sequence::from_vec(cut(values, select.offset, select.limit)?))
+    sort_values(graph, rows)?;
+    drop_repeats(select.distinct, graph, rows);
+    let left = cut(rows, select.offset, select.limit);
+    Ok(Sequence::from_vec(make_rows(alloc, graph, left)?))
 }

@@ -1,15 +1,17 @@
 //! The solutions of a group.
-ghost use Rattle.std.specs.Prelude.{◌≡◌, ◌<◌, ◌≤◌, [], length, IfOk, OnOk, IsErrOf};
+ghost use Rattle.std.specs.Prelude.{◌≡◌, ◌<◌, ◌≤◌, length, IfOk, OnOk, IsErrOf};
 ghost use Rattle.std.specs.List.{All, flat_map};
 ghost use Rattle.mld_ops.specs.Present.{present};
 ghost use Rattle.jrql_ast.specs.InForm.{IsGroupInForm, IsPatternWithin, variables_of};
 ghost use Rattle.jrql_ast.specs.QueryAnswers.{IsSolutions, IsSortingOf, found, row_cmp, solution_limit};
-ghost use Rattle.jrql_eval.specs.AddedRows.{AddsInAnyOrder, FindsRows, of_branch};
+ghost use Rattle.jrql_eval.specs.KeptValues.{KeepsFound, of_branch, rows_numbered};
 
+use crate::bindings::Bindings;
 use crate::columns::columns;
 use crate::faults::EvalFault;
+use crate::kept::{Kept, no_rows};
 use crate::plans::plan_of;
-use crate::rows::{cmp_by, unbound_row};
+use crate::rows::{cmp_by, make_rows};
 use crate::scanning::are_present;
 use crate::searching::search;
 use graph_index::Graph;
@@ -25,19 +27,17 @@ fn variables_of(group: &Group) -> usize
     group.names.len() + group.hidden as usize
 }
 
-// Adds the solutions that the patterns of a group have together with a branch.
+// Finds the solutions that the patterns of a group have together with a branch.
 fn add_branch(
     alloc: Global,
-    graph: &Graph,
     group: &Group,
     branch: &[PatternTriple],
-    rows: &mut Vec<Row>,
+    kept: &mut Kept<'_>,
 ) -> Result<(), EvalFault>
     requires form { IsGroupInForm group.now }
     requires branch { All (IsPatternWithin (variables_of group.now) 0) branch.now }
-    requires few { length rows.old.items ≤ solution_limit }
-    ensures { AddsInAnyOrder rows.old.items (of_branch (present graph.now.pairs) group.now branch.now) result
-        rows.new.items }
+    requires few { kept.old.count ≤ solution_limit }
+    ensures { KeepsFound kept.old (of_branch (present kept.old.graph.now.pairs) group.now branch.now) result kept.new }
 {
     let variables = variables_of(group);
     let plan = plan_of(
@@ -47,68 +47,58 @@ fn add_branch(
         group.filters.as_slice(),
         variables,
     )?;
-    let start = unbound_row(alloc, variables)?;
+    let start = Bindings::unbound(alloc, kept.graph, variables)?;
     if !all_can_hold(&plan.tests, &start) {
         return Ok(());
     }
-    if !are_present(graph, &plan.checks, &start)? {
+    if !are_present(&plan.checks, &start) {
         return Ok(());
     }
-    search(
-        alloc,
-        graph,
-        group.filters.as_slice(),
-        &plan.stages,
-        &start,
-        rows,
-    )
+    search(alloc, group.filters.as_slice(), &plan.stages, &start, kept)
 }
 
-/// The solutions of a group, in whatever order.
-pub(crate) fn find_rows(alloc: Global, graph: &Graph, group: &Group) -> Result<Vec<Row>, EvalFault>
-    requires { IsGroupInForm group.now }
-    ensures { FindsRows (found (present graph.now.pairs) group.now) result }
+/// Keeps the solutions of a group, in whatever order.
+pub(crate) fn find_rows(alloc: Global, group: &Group, kept: &mut Kept<'_>) -> Result<(), EvalFault>
+    requires form { IsGroupInForm group.now }
+    requires few { kept.old.count ≤ solution_limit }
+    ensures { KeepsFound kept.old (found (present kept.old.graph.now.pairs) group.now) result kept.new }
 {
     if group.branches.is_empty() {
-        find_alone(alloc, graph, group)
+        add_branch(alloc, group, &[], kept)
     } else {
-        find_branches(alloc, graph, group, group.branches.as_slice())
+        find_branches(alloc, group, group.branches.as_slice(), kept)
     }
 }
 
-// The solutions of a group that has no branch.
-fn find_alone(alloc: Global, graph: &Graph, group: &Group) -> Result<Vec<Row>, EvalFault>
-    requires { IsGroupInForm group.now }
-    ensures { FindsRows (of_branch (present graph.now.pairs) group.now []) result }
-{
-    let mut rows = Vec::new(alloc);
-    add_branch(alloc, graph, group, &[], &mut rows)?;
-    Ok(rows)
-}
-
-// The solutions that a group has with these branches.
+// Keeps the solutions that a group has with these branches.
 fn find_branches(
     alloc: Global,
-    graph: &Graph,
     group: &Group,
     branches: &[Sequence<PatternTriple>],
-) -> Result<Vec<Row>, EvalFault>
+    kept: &mut Kept<'_>,
+) -> Result<(), EvalFault>
     requires form { IsGroupInForm group.now }
     requires branches { All (All (IsPatternWithin (variables_of group.now) 0)) branches.now }
-    ensures { FindsRows (flat_map (of_branch (present graph.now.pairs) group.now) branches.now) result }
+    requires few { kept.old.count ≤ solution_limit }
+    ensures { KeepsFound kept.old (flat_map (of_branch (present kept.old.graph.now.pairs) group.now) branches.now) result
+        kept.new }
 {
-    let mut rows = Vec::new(alloc);
     for branch in branches {
-        add_branch(alloc, graph, group, branch.as_slice(), &mut rows)?;
+        add_branch(alloc, group, branch.as_slice(), kept)?;
     }
-    Ok(rows)
+    Ok(())
 }
 
 // Sorts rows by their values for these variables.
-fn sort_rows(columns: &[u16], rows: &mut Vec<Row>) -> Result<(), AllocError>
-    ensures { OnOk result (IsSortingOf (row_cmp columns.now) rows.old.items rows.new.items) }
+fn sort_rows(
+    graph: &Graph,
+    columns: &[u16],
+    rows: &mut Vec<Vec<Option<u32>>>,
+) -> Result<(), AllocError>
+    ensures { OnOk result (IsSortingOf (row_cmp columns.now) (rows_numbered graph.now rows.old.items)
+        (rows_numbered graph.now rows.new.items)) }
 {
-    rows.sort_by(|row, other| cmp_by(columns, row.as_slice(), other.as_slice()))
+    rows.sort_by(|row, other| cmp_by(graph, columns, row, other))
 }
 
 /// The solutions of a group, sorted by its named variables in the order of their names, then by its hidden ones: for each branch all
@@ -122,7 +112,8 @@ pub fn solutions(alloc: Global, graph: &Graph, group: &Group) -> Result<Vec<Row>
         → solution_limit < length (found (present graph.now.pairs) group.now) }
 {
     let columns = columns(alloc, group.names.as_slice(), group.hidden)?;
-    let mut rows = find_rows(alloc, graph, group)?;
-    sort_rows(&columns, &mut rows)?;
-    Ok(rows)
+    let mut kept = no_rows(alloc, graph, None, false);
+    find_rows(alloc, group, &mut kept)?;
+    sort_rows(graph, &columns, &mut kept.rows)?;
+    Ok(make_rows(alloc, graph, &kept.rows)?)
 }

@@ -8,7 +8,7 @@ ghost use Rattle.jrql_ast.specs.FilterMeaning.{is_integer_text, number_value, st
 ghost use Rattle.jrql_filters.specs.FilteredRows.{all_hold, all_can_hold, can_hold};
 
 use crate::limits::DIGIT_LIMIT;
-use crate::values::term_at;
+use crate::values::{Values, term_at};
 use jrql_ast::{Compare, Filter};
 use rdf_terms::{Literal, Term};
 use std::cmp::Ordering;
@@ -138,8 +138,8 @@ fn compares_so(op: Compare, left: &Term, right: &Term) -> bool
 }
 
 // Whether a filter holds of a row.
-fn holds(filter: &Filter, row: &[Option<Term>]) -> bool
-    ensures { result ≡ holds filter.now row.now }
+fn holds<V: Values>(filter: &Filter, row: &V) -> bool
+    ensures { result ≡ holds filter.now (V.values row.now) }
 {
     match (term_at(&filter.left, row), term_at(&filter.right, row)) {
         (Some(left), Some(right)) => compares_so(filter.op, left, right),
@@ -148,8 +148,8 @@ fn holds(filter: &Filter, row: &[Option<Term>]) -> bool
 }
 
 /// Whether all filters hold of a row.
-pub fn all_hold(filters: &[Filter], row: &[Option<Term>]) -> bool
-    ensures { result ≡ all_hold filters.now row.now }
+pub fn all_hold<V: Values>(filters: &[Filter], row: &V) -> bool
+    ensures { result ≡ all_hold filters.now (V.values row.now) }
 {
     for filter in filters {
         if !holds(filter, row) {
@@ -160,8 +160,8 @@ pub fn all_hold(filters: &[Filter], row: &[Option<Term>]) -> bool
 }
 
 // Whether a filter may hold behind a row: it does where a side of it isn't bound yet.
-fn can_hold(filter: &Filter, row: &[Option<Term>]) -> bool
-    ensures { result ≡ can_hold filter.now row.now }
+fn can_hold<V: Values>(filter: &Filter, row: &V) -> bool
+    ensures { result ≡ can_hold filter.now (V.values row.now) }
 {
     match (term_at(&filter.left, row), term_at(&filter.right, row)) {
         (Some(left), Some(right)) => compares_so(filter.op, left, right),
@@ -170,8 +170,8 @@ fn can_hold(filter: &Filter, row: &[Option<Term>]) -> bool
 }
 
 /// Whether all filters may hold behind a row.
-pub fn all_can_hold(filters: &[&Filter], row: &[Option<Term>]) -> bool
-    ensures { result ≡ all_can_hold filters.now row.now }
+pub fn all_can_hold<V: Values>(filters: &[&Filter], row: &V) -> bool
+    ensures { result ≡ all_can_hold filters.now (V.values row.now) }
 {
     for filter in filters {
         if !can_hold(filter, row) {

@@ -6,4 +6,4 @@ mod limits;
 mod values;
 
 pub use filters::{all_can_hold, all_hold};
-pub use values::{term_at, value_at};
+pub use values::{Values, term_at};

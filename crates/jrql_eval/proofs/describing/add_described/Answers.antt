@@ -2,7 +2,7 @@ use Rattle.std.proofs.Common.{◌∙◌, ◌++◌, None, Some, map, sym, ap}
 use Rattle.mld_ops.specs.Present.{present}
 use Rattle.mld_ops.proofs.PresentLaws.{present_ascends}
 use Rattle.jrql_eval.specs.Evaluating.{has_parts}
-use Rattle.jrql_eval.proofs.AddedRows.{on_ok_weaker}
+use Rattle.jrql_eval.proofs.LedRows.{on_ok_weaker}
 use Rattle.jrql_eval.proofs.DescribeLaws.{described_found}
 use Rattle.jrql_eval.proofs.TripleScans.{sorted_found}
 use Rattle.jrql_eval.proofs.describing.add_described.Goals as goal

@@ -5,6 +5,6 @@ use Rattle.jrql_eval.proofs.scanning.are_present.Goals as goal
 
 pub loop-pattern-preserved : goal.loop-pattern-preserved
 loop-pattern-preserved c = λ rest.
-    let here = c.in_ok-is_present.ensures ∙ ap (λ (b : Bool). if b then c.args.row.now ∷ [] else []) c.if-not-branch.false in
+    let here = c.is_present.ensures ∙ ap (λ (b : Bool). if b then c.args.row.now.row ∷ [] else []) c.if-not-is_present.false in
     c.loop-pattern.invariant rest
-    ∙ one_checked (present c.args.graph.now.pairs) c.args.patterns.now c.loop-pattern.pattern-index c.pattern-item.result rest c.args.row.now c.loop-pattern-test.true c.pattern-item.is here
+    ∙ one_checked (present c.args.row.now.graph.pairs) c.args.patterns.now c.loop-pattern.pattern-index c.pattern-item.result rest c.args.row.now.row c.loop-pattern-test.true c.pattern-item.is here

@@ -7,5 +7,5 @@ use Rattle.jrql_eval.proofs.scanning.are_present.Given as goal
 -- what is behind has the matches of all
 abbrev pub invariant-loop-pattern : goal.invariant-loop-pattern
 invariant-loop-pattern l =
-    (rest : List PatternTriple) → matches_from (present l.graph.pairs) (map (λ x. x.now) l.patterns ++ rest) l.row
-    ≡ matches_from (present l.graph.pairs) (map (λ x. x.now) (drop l.pattern-index l.patterns) ++ rest) l.row
+    (rest : List PatternTriple) → matches_from (present l.row.graph.pairs) (map (λ x. x.now) l.patterns ++ rest) l.row.row
+    ≡ matches_from (present l.row.graph.pairs) (map (λ x. x.now) (drop l.pattern-index l.patterns) ++ rest) l.row.row

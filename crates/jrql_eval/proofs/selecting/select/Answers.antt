@@ -1,16 +1,21 @@
-use Rattle.std.proofs.Common.{List, Option, subst}
-use Rattle.rdf_terms.specs.declared.terms.Term.{Term}
-use Rattle.mld_ops.specs.Present.{present}
-use Rattle.jrql_eval.specs.Asked.{IsSelectedOf}
-use Rattle.jrql_eval.proofs.AddedRows.{few_of}
-use Rattle.jrql_eval.proofs.AnswerLaws.{rows_answer}
+use Rattle.std.proofs.Common.{List, Some, ℕ, subst}
+use Rattle.jrql_eval.specs.KeptValues.{IsEmptyKept}
+use Rattle.std.proofs.lemmas.Result.{err_from_is_err_and}
+use Rattle.jrql_eval.proofs.KeptAnswers.{answered_fault, answered_few, select_kept}
 use Rattle.jrql_eval.proofs.selecting.select.Goals as goal
 
 pub returns-clause-answer : goal.returns-clause-answer
 returns-clause-answer c =
-    let kept = c.in_ok-selected.field-0 in
-    rows_answer (present c.args.graph.now.pairs) c.args.query.now c.in-Select.select c.in_ok-rows.rows.items kept c.in-Select.is c.in_ok-rows.ensures.0
-    (subst (λ (rows : List (List (Option Term))). IsSelectedOf c.in-Select.select rows kept) c.deref.ensures.value c.in_ok-selected.ensures)
+    let graph = c.args.graph.now in
+    let select = c.in-Select.select in
+    select_kept graph c.args.query.now select c.no_rows-kept.result c.find_rows.new.kept c.in_ok-selected.field-0 c.in-Select.is
+    (subst (λ (vars : List ℕ). IsEmptyKept graph (Some vars) select.distinct c.no_rows-kept.result) c.as_slice.ensures c.no_rows-kept.ensures) c.in_ok-find_rows.ensures c.in_ok-selected.ensures
 
 pub returns-clause-few : goal.returns-clause-few
-returns-clause-few c = few_of _ c.in_ok-rows.rows.items c.in_ok-rows.ensures
+returns-clause-few c =
+    answered_few c.args.graph.now (Some c.as_slice.result.now) c.in-Select.select.distinct c.no_rows-kept.result c.args.query.now.group c.no_rows-kept.ensures c.find_rows.new.kept c.in_ok-find_rows.ensures
+
+pub returns-in_err-find_rows-clause-too_many : goal.returns-in_err-find_rows-clause-too_many
+returns-in_err-find_rows-clause-too_many c =
+    let p = err_from_is_err_and c.from_residual.result c.from_residual.ensures.1 in
+    rw (p.1, p.2) (answered_fault c.args.graph.now (Some c.as_slice.result.now) c.in-Select.select.distinct c.no_rows-kept.result c.args.query.now.group c.no_rows-kept.ensures _ c.in_err-find_rows.field-0.0 c.find_rows.new.kept c.in_err-find_rows.ensures)

@@ -1,11 +1,8 @@
-use Rattle.std.proofs.Common.{◌≤◌, length, take, flat_map}
-use Rattle.std.specs.List.Sorted.{IsPermutation}
+use Rattle.std.proofs.Common.{take, flat_map}
 use Rattle.mld_ops.specs.Present.{present}
-use Rattle.jrql_ast.specs.QueryAnswers.{solution_limit}
-use Rattle.jrql_eval.specs.AddedRows.{of_branch}
+use Rattle.jrql_eval.specs.KeptValues.{KeepsEachFound, of_branch}
 use Rattle.jrql_eval.proofs.solving.find_branches.Given as goal
 
 abbrev pub invariant-loop-branch : goal.invariant-loop-branch
 invariant-loop-branch l =
-    IsPermutation (flat_map (λ branch. of_branch (present l.graph.pairs) l.group branch) (take l.branch-index l.branches)) l.rows.items
-    × (length l.rows.items ≤ solution_limit)
+    KeepsEachFound l.initial.kept (flat_map (of_branch (present l.initial.kept.graph.now.pairs) l.group) (take l.branch-index l.branches)) l.kept

@@ -3,4 +3,4 @@ use Rattle.jrql_filters.specs.FilteredRows.{all_hold}
 use Rattle.jrql_filters.proofs.filters.all_hold.Given as goal
 
 abbrev pub invariant-loop-filter : goal.invariant-loop-filter
-invariant-loop-filter l = all_hold l.filters l.row ≡ all_hold (drop l.filter-index l.filters) l.row
+invariant-loop-filter g l = all_hold l.filters (g.V.Values.values l.row) ≡ all_hold (drop l.filter-index l.filters) (g.V.Values.values l.row)

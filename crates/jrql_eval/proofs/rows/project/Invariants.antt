@@ -1,6 +1,0 @@
-use Rattle.std.proofs.Common.{◌≡◌, take}
-use Rattle.jrql_ast.specs.QueryAnswers.{project}
-use Rattle.jrql_eval.proofs.rows.project.Given as goal
-
-abbrev pub invariant-loop-variable : goal.invariant-loop-variable
-invariant-loop-variable l = l.values.items ≡ project (take l.variable-index l.variables) l.row
