@@ -1,0 +1,7 @@
+pub use Rattle.chunked_list.proofs as of_chunked_list
+pub mod Hashes
+pub mod Lookups
+pub mod Numbers
+pub mod PathLookups
+pub mod Places
+pub mod Seeking

@@ -1,0 +1,75 @@
+-- Terms by their hashes. The private table of terms cites it: how its numbers are ordered, where a term is looked for, and what the
+-- table keeps.
+use Rattle.std.specs.Prelude.{◌≡◌, ℕ, zero, suc, ◌*◌, ◌/◌, ◌%◌, ◌^◌, ◌<◌, List, [], ◌∷◌, ◌↔◌, Option, None, Some, Bool, fold, length}
+use Rattle.std.specs.Cmp.Lexicographic.{slice_cmp}
+use Rattle.std.specs.Hash.FoldHasher as folding
+use Rattle.std.specs.List.{IsDistinct, slice_get}
+use Rattle.std.specs.Ordering.{nat_cmp, ordering_then, eq_by_cmp, is_lt}
+use Rattle.std.specs.declared.cmp.Ordering.{Ordering}
+use Rattle.rdf_terms.specs.declared.terms.Term.{Term}
+use Rattle.rdf_terms.specs.declared.terms.Term.TheVariants as terms
+use Rattle.rdf_terms.specs.Hashed.{term_fed}
+use Rattle.rdf_terms.specs.Order.{term_cmp}
+use Rattle.rdf_terms.specs.Spelling.{term_text}
+use Rattle.tree_clock.specs.Lists.{Has, IsAscending}
+use Rattle.number_tables.specs.declared.hashed.HashedNumber.{HashedNumber}
+use Rattle.number_tables.specs.declared.hashed.Wanted.{Wanted}
+use Rattle.number_tables.specs.declared.hashed.Wanted.TheVariants as wanted
+
+-- what a hasher of a fixed seed makes of what is fed to it
+unfoldable pub hash_fed : List (List ℕ) → ℕ
+hash_fed writes = folding.finish (fold folding.write folding.initial writes)
+
+-- the hash of a term
+unfoldable pub term_hash : Term → ℕ
+term_hash term = hash_fed (term_fed term)
+
+-- the lowest bytes of a hash, so many, the highest of them first
+abbrev pub low_bytes : ℕ → ℕ → List ℕ
+low_bytes zero hash = []
+low_bytes (suc n) hash = hash / 2 ^ (8 * n) % 256 ∷ low_bytes n hash
+
+-- the text of a hash: its eight bytes
+unfoldable pub hash_text : ℕ → List ℕ
+hash_text hash = low_bytes 8 hash
+
+-- hashes by their texts; those are all of a number below 2 ^ 64, and numbers from there on are told apart by themselves
+abbrev pub hash_cmp : ℕ → ℕ → Ordering
+hash_cmp a b = ordering_then (slice_cmp nat_cmp (hash_text a) (hash_text b)) (nat_cmp a b)
+
+-- the text of a term that may be there; none is the least of all
+abbrev pub hashed_term_text : Option Term → List ℕ
+hashed_term_text None = []
+hashed_term_text (Some term) = term_text term
+
+-- the text of the term that has a number
+abbrev pub term_text_at : List Term → ℕ → List ℕ
+term_text_at terms number = hashed_term_text (slice_get terms number)
+
+-- a number with its hash against a hash and a text: by the hashes first, and then by the texts
+abbrev pub sought_cmp : List Term → HashedNumber → ℕ → List ℕ → Ordering
+sought_cmp terms a hash text = ordering_then (hash_cmp a.hash hash) (slice_cmp nat_cmp (term_text_at terms a.number) text)
+
+-- two numbers: by their hashes, then by the texts of their terms, and then by themselves
+abbrev pub hashed_cmp : List Term → HashedNumber → HashedNumber → Ordering
+hashed_cmp terms a b = ordering_then (sought_cmp terms a b.hash (term_text_at terms b.number)) (nat_cmp a.number b.number)
+
+-- a number with its hash is in front of what is sought
+abbrev pub is_before_sought : List Term → ℕ → List ℕ → HashedNumber → Bool
+is_before_sought terms hash text a = is_lt (sought_cmp terms a hash text)
+
+-- the term that is looked up
+abbrev pub wanted_term : Wanted → Term
+wanted_term (wanted.Iri iri) = terms.Iri iri.now
+wanted_term (wanted.Term term) = term.now
+
+-- the number is that of a term, and stands with that term's hash
+abbrev pub IsHashed : List Term → HashedNumber → Type 0
+IsHashed terms place = (term : Term) × (slice_get terms place.number ≡ Some term) × (place.hash ≡ term_hash term)
+
+-- what a table of terms keeps: no term stands twice, and the numbers of all are there with their hashes, in order, and no others
+pub record IsTermTable (terms : List Term) (places : List HashedNumber) : Type 0 where
+  pub apart : IsDistinct (eq_by_cmp term_cmp) terms
+  pub few : length terms < 2 ^ 32
+  pub members : (place : HashedNumber) → Has places place ↔ IsHashed terms place
+  pub ascending : IsAscending (hashed_cmp terms) places

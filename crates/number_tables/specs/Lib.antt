@@ -1,0 +1,5 @@
+pub use Rattle.chunked_list.specs as chunked_list
+pub mod HashedLaws
+pub mod HashedTerms
+pub mod NumberedPaths
+pub mod TableNumbers
