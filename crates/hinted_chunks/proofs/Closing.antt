@@ -1,6 +1,7 @@
 -- Texts with their closing marks: what two share, and their first bytes.
-use Rattle.std.proofs.Common.{◌≡◌, ◌∙◌, ℕ, zero, suc, ◌+◌, ◌*◌, ◌^◌, ◌<◌, List, [], ◌∷◌, ◌++◌, take, drop, get_or, refl, sym, ap, inl, inr, arith}
+use Rattle.std.proofs.Common.{◌≡◌, ◌∙◌, ℕ, zero, suc, ◌+◌, ◌*◌, ◌^◌, ◌<◌, ◌≤◌, List, [], ◌∷◌, ◌++◌, take, drop, get_or, length, refl, sym, ap, inl, inr, arith}
 use Rattle.std.proofs.lemmas.Bool.{cases_eq, eq-eqb, ne_eqb, lt-ltb}
+use Rattle.std.proofs.lemmas.List.{drop_all, get_or-drop}
 use Rattle.text_rules.specs.Compare.{common}
 use Rattle.hinted_chunks.specs.ClosedTexts.{closed_text}
 use Rattle.hinted_chunks.specs.Leading.{leading}
@@ -43,3 +44,18 @@ leading_eight a b c d e f g h xs ah bh ch dh eh fh gh hh ai bi ci di ei fi gi hi
     let gj = leading_at 1 6 g xs gh gi in
     let hj = leading_at 0 7 h xs hh hi in
     omega arith
+
+-- from a place on
+pub leading_from : (place a b c d e f g h : ℕ) (xs : List ℕ) → a < 256 → b < 256 → c < 256 → d < 256 → e < 256 → f < 256 → g < 256 → h < 256
+    → a ≡ get_or xs place 0 → b ≡ get_or xs (place + 1) 0 → c ≡ get_or xs (place + 2) 0 → d ≡ get_or xs (place + 3) 0 → e ≡ get_or xs (place + 4) 0 → f ≡ get_or xs (place + 5) 0
+    → g ≡ get_or xs (place + 6) 0 → h ≡ get_or xs (place + 7) 0
+    → leading 8 (drop place xs) ≡ a * 256 ^ 7 + b * 256 ^ 6 + c * 256 ^ 5 + d * 256 ^ 4 + e * 256 ^ 3 + f * 256 ^ 2 + g * 256 + h
+leading_from place a b c d e f g h xs ah bh ch dh eh fh gh hh ai bi ci di ei fi gi hi =
+    let here : get_or (drop place xs) 0 0 ≡ get_or xs place 0 =
+    let n : place + 0 ≡ place = omega arith in
+    get_or-drop place xs 0 0 ∙ ap (λ k. get_or xs k 0) n in
+    leading_eight a b c d e f g h (drop place xs) ah bh ch dh eh fh gh hh (ai ∙ sym here) (bi ∙ sym (get_or-drop place xs 1 0)) (ci ∙ sym (get_or-drop place xs 2 0))
+    (di ∙ sym (get_or-drop place xs 3 0)) (ei ∙ sym (get_or-drop place xs 4 0)) (fi ∙ sym (get_or-drop place xs 5 0)) (gi ∙ sym (get_or-drop place xs 6 0)) (hi ∙ sym (get_or-drop place xs 7 0))
+
+pub leading_behind : (place : ℕ) (xs : List ℕ) → length xs ≤ place → leading 8 (drop place xs) ≡ 0
+leading_behind place xs l = ap (leading 8) (drop_all place xs l)

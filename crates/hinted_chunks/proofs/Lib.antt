@@ -5,3 +5,5 @@ pub mod Hinting
 pub mod Sharing
 pub mod Topping
 pub mod Closing
+pub mod HintedSort
+pub mod Fronts

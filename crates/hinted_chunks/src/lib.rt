@@ -6,6 +6,8 @@ mod chunks;
 mod hints;
 mod keys;
 mod limits;
+mod sorting;
+mod terms;
 mod tops;
 
 pub use bounds::{Below, Bound, Keyed, Order, Test};
@@ -14,5 +16,7 @@ pub use hints::{Hints, count_hinted, lower_to, put_hint, put_in};
 pub use keys::{closed_hint, closed_shared};
 pub use limits::{CHUNK_LIMIT, CHUNKS_LIMIT, HALF};
 pub use mld_ops;
+pub use sorting::{TextOrder, sort_by_hints};
+pub use terms::{term_hint, term_shared};
 pub use tops::{Begun, shared_with_top};
 pub use tree_clock;
