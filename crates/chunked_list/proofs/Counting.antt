@@ -1,9 +1,13 @@
 -- Elements of a list in chunks, by how many stand before them.
-use Rattle.std.proofs.Common.{◌≡◌, ◌∙◌, ℕ, ◌+◌, ◌<◌, ◌≤◌, List, [], ◌∷◌, ◌++◌, length, get_or, take, drop, suc, zero, refl, sym, subst, ap, inl, inr, arith, append_assoc}
+use Rattle.std.proofs.Common.{◌≡◌, ◌∙◌, ℕ, ◌+◌, ◌<◌, ◌≤◌, List, [], ◌∷◌, ◌++◌, Bool, true, false, length, get_or, max, take, drop, suc, zero, refl, sym, subst, ap, inl, inr, arith, append_assoc}
 use Rattle.std.proofs.Math.Seq.{take-append_seam, drop-append_seam}
 use Rattle.std.proofs.lemmas.Bool.{cases_lt}
 use Rattle.std.proofs.lemmas.List.{length-append, length-take, take-append-drop, take_all, take_more}
+use Rattle.std.specs.List.Sorted.{IsPartitionPoint}
+use Rattle.hinted_chunks.specs.tree_clock.Lists.{Has}
+use Rattle.hinted_chunks.proofs.of_mld_ops.AscendingLaws.{has_at}
 use Rattle.chunked_list.specs.Joined.{joined_chunks, chunk_at, front_of, back_of}
+use Rattle.chunked_list.specs.Parted.{Divides}
 use Rattle.chunked_list.proofs.JoinedLaws.{joined_append, joined_more}
 use Rattle.chunked_list.proofs.Placing.{whole}
 
@@ -112,3 +116,49 @@ span_is n chunks c at olds mids lasts front backs o f b m l =
 
 pub span_none : {X : Type 0} (n : ℕ) (xs : List X) → n ≡ 0 → take n xs ≡ []
 span_none n xs e = ap (λ k. take k xs) e ∙ take_none xs
+
+-- ---- how many elements are in front of a place that divides them
+
+one_more : {X : Type 0} (p : X → Bool) (z : X) (xs : List X) (n : ℕ) → p z ≡ true → IsPartitionPoint (λ x. p x ≡ true) (λ x. p x ≡ false) xs n
+    → IsPartitionPoint (λ x. p x ≡ true) (λ x. p x ≡ false) (z ∷ xs) (suc n)
+one_more {X = X} p z xs n e rest = (front, back)
+  where
+    front : (k : ℕ) (d : X) → 0 ≤ k → k < suc n → p (get_or (z ∷ xs) k d) ≡ true
+    front zero d a b = e
+    front (suc k) d a b = rest.0 k d (omega arith) (omega (arith, b))
+
+    back : (k : ℕ) (d : X) → suc n ≤ k → k < length (z ∷ xs) → p (get_or (z ∷ xs) k d) ≡ false
+    back zero d a b = absurd (omega (arith, a))
+    back (suc k) d a b = rest.1 k d (omega (arith, a)) (omega (arith, b))
+
+point_of : {X : Type 0} (p : X → Bool) (xs ys : List X) → ((x : X) → Has xs x → p x ≡ true) → ((x : X) → Has ys x → p x ≡ false)
+    → IsPartitionPoint (λ x. p x ≡ true) (λ x. p x ≡ false) (xs ++ ys) (length xs)
+point_of p [] ys pass fail = (λ k d a b. absurd (omega (arith, b)), λ k d a b. fail (get_or ys k d) (has_at ys k d b))
+point_of p (z ∷ xs) ys pass fail = one_more p z (xs ++ ys) (length xs) (pass z (inl refl)) (point_of p xs ys (λ x k. pass x (inr k)) fail)
+
+-- what is in front of a place, and what is behind it, is all; also where there is no chunk
+pub all_divided : {X : Type 0} (chunks : List (List X)) (c at : ℕ) → c < max 1 (length chunks) → at ≤ length (chunk_at chunks c)
+    → joined_chunks chunks ≡ front_of chunks c at ++ back_of chunks c at
+all_divided [] zero zero l m = refl
+all_divided [] zero (suc at) l m = absurd (omega (arith, m))
+all_divided [] (suc c) at l m = absurd (omega (arith, l))
+all_divided (x ∷ xs) c at l m = whole (x ∷ xs) c at (omega (arith, l))
+
+pub counted_point : {X : Type 0} (p : X → Bool) (chunks : List (List X)) (c at n : ℕ) → c < max 1 (length chunks) → at ≤ length (chunk_at chunks c) → Divides p chunks c at
+    → n ≡ length (front_of chunks c at) → IsPartitionPoint (λ x. p x ≡ true) (λ x. p x ≡ false) (joined_chunks chunks) n
+counted_point p chunks c at n l m d e =
+    rw (all_divided chunks c at l m, e) (point_of p (front_of chunks c at) (back_of chunks c at) d.front d.back)
+
+pub counted_most : {X : Type 0} (chunks : List (List X)) (c at n : ℕ) → c < max 1 (length chunks) → at ≤ length (chunk_at chunks c)
+    → n ≡ length (front_of chunks c at) → n ≤ length (joined_chunks chunks)
+counted_most chunks c at n l m e =
+    let w = ap length (all_divided chunks c at l m) in
+    let a = length-append (front_of chunks c at) (back_of chunks c at) in
+    omega (arith, e, w, a)
+
+-- without a chunk none is
+pub none_counted : {X : Type 0} (chunks : List (List X)) (c at : ℕ) → length chunks ≤ c → c < max 1 (length chunks) → at ≤ length (chunk_at chunks c) → 0 ≡ length (front_of chunks c at)
+none_counted [] zero zero k l m = refl
+none_counted [] zero (suc at) k l m = absurd (omega (arith, m))
+none_counted [] (suc c) at k l m = absurd (omega (arith, l))
+none_counted (x ∷ xs) c at k l m = absurd (omega (arith, k, l))

@@ -9,3 +9,4 @@ pub mod Standing
 pub mod Between
 pub mod Counting
 pub mod Starting
+pub mod NumberHints

@@ -345,3 +345,8 @@ module _ {X : Type 0} (chunks : List (List X)) (starts : List ℕ) (s : AreStart
 
   pub is_front : n - start < length (chunk_at chunks k) → length (front_of chunks k (n - start)) ≡ n
   is_front h = let b = s.each k l in let f = front_length chunks k (n - start) (omega (arith, h)) in omega (arith, b, f, e, m)
+
+-- the number of the chunk, and the place in it, is how many are in front of a place
+pub counted_front : {X : Type 0} (chunks : List (List X)) (starts : List ℕ) (c at start : ℕ) → AreStarts chunks starts → c < length chunks → at ≤ length (chunk_at chunks c)
+    → start ≡ get_or starts c 0 → start + at ≡ length (front_of chunks c at)
+counted_front chunks starts c at start s l m e = let b = s.each c l in let f = front_length chunks c at m in omega (arith, b, f, e)

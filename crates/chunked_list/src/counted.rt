@@ -1,13 +1,14 @@
 //! Elements by how many stand before them.
-ghost use Rattle.std.specs.Prelude.{◌≡◌, ◌<◌, ◌≤◌, ◌-◌, ◌++◌, length, map, take, drop, vec_len, vec_capacity, IfOk};
-ghost use Rattle.chunked_list.specs.Joined.{joined_chunks, front_of};
-ghost use Rattle.chunked_list.specs.Parted.{IsElement};
+ghost use Rattle.std.specs.Prelude.{◌≡◌, ◌<◌, ◌≤◌, ◌-◌, ◌++◌, true, false, length, map, take, drop, max, vec_len, vec_capacity, IfOk};
+ghost use Rattle.std.specs.List.Sorted.{IsPartitionPoint};
+ghost use Rattle.chunked_list.specs.Joined.{joined_chunks, chunk_at, front_of};
+ghost use Rattle.chunked_list.specs.Parted.{IsElement, IsParted};
 ghost use Rattle.chunked_list.specs.Stores.{IsStore, elements_in};
 
-use crate::places::Place;
+use crate::places::{Place, locate};
 use crate::starts::last_at_most;
 use crate::stores::Store;
-use hinted_chunks::{Chunk, Keyed};
+use hinted_chunks::{Bound, Chunk, Keyed};
 use std::alloc::{AllocError, Global};
 
 /// The place of the element before which so many stand.
@@ -20,6 +21,30 @@ pub(crate) fn place_of<T: Keyed + Drop>(store: &Store<T>, count: usize) -> Place
     let chunk = last_at_most(&store.starts, count);
     let at = count - store.starts[chunk];
     Place { chunk, at }
+}
+
+/// How many elements are before a bound.
+pub(crate) fn count_in<T: Keyed + Drop, B: Bound<T>>(store: &Store<T>, bound: &B) -> usize
+    requires is { IsStore T.key store.now }
+    requires parted { IsParted (B.before bound.now) (elements_in store.now) }
+    ensures end { result ≤ length (elements_in store.now) }
+    ensures place { IsPartitionPoint (λ x. B.before bound.now x ≡ true) (λ x. B.before bound.now x ≡ false)
+        (elements_in store.now) result }
+{
+    count_at(store, locate(store, bound))
+}
+
+// How many elements are in front of a place.
+fn count_at<T: Keyed + Drop>(store: &Store<T>, place: Place) -> usize
+    requires is { IsStore T.key store.now }
+    requires chunk { place.chunk < max 1 (length store.now.chunks.items) }
+    requires at { place.at ≤ length (chunk_at store.now.chunks.items place.chunk) }
+    ensures { result ≡ length (front_of store.now.chunks.items place.chunk place.at) }
+{
+    if place.chunk < store.starts.len() {
+        return store.starts[place.chunk] + place.at;
+    }
+    0
 }
 
 /// The elements from one number to before another, in order.

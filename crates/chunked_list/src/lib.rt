@@ -4,6 +4,7 @@
 mod counted;
 mod edits;
 mod lists;
+mod numbers;
 mod places;
 mod searches;
 mod spans;
@@ -15,3 +16,4 @@ pub use hinted_chunks::{
     Bound, CHUNK_LIMIT, Chunk, Keyed, Order, Test, closed_hint, closed_shared,
 };
 pub use lists::Chunked;
+pub use numbers::numbers_hint;

@@ -1,12 +1,13 @@
 //! Ascending lists in chunks.
-ghost use Rattle.std.specs.Prelude.{◌≡◌, ◌<◌, ◌≤◌, ◌+◌, ◌-◌, ◌⊎◌, ◌↔◌, ◌∷◌, [], length, map, take, drop, IsTrue, IfOk, OnOk};
+ghost use Rattle.std.specs.Prelude.{◌≡◌, ◌<◌, ◌≤◌, ◌+◌, ◌-◌, ◌⊎◌, ◌↔◌, ◌∷◌, [], true, false, length, map, take, drop, IsTrue, IfOk, OnOk};
 ghost use Rattle.std.specs.List.{filter};
+ghost use Rattle.std.specs.List.Sorted.{IsPartitionPoint};
 ghost use Rattle.std.specs.Option.{option_copied};
 ghost use Rattle.chunked_list.specs.Joined.{joined_chunks};
 ghost use Rattle.chunked_list.specs.Parted.{IsParted, IsFirstOf, is_between};
 ghost use Rattle.hinted_chunks.specs.tree_clock.Lists.{Has, IsAscending};
 
-use crate::counted::{place_of, span_of};
+use crate::counted::{count_in, place_of, span_of};
 use crate::places::find;
 use crate::searches::{has_in, insert_in, remove_in};
 use crate::spans::{between_in, filtered_in};
@@ -81,6 +82,16 @@ impl<T: Keyed + Drop> Chunked<T> {
         ensures { IfOk result (λ found. map (λ x. x.now) found.items ≡ take (to - from) (drop from self.now.elements)) }
     {
         span_of(alloc, &self.store, from, to)
+    }
+
+    /// How many elements are before the bound.
+    pub fn count_before<B: Bound<T>>(&self, bound: &B) -> usize
+        requires { IsParted (B.before bound.now) self.now.elements }
+        ensures end { result ≤ length self.now.elements }
+        ensures place { IsPartitionPoint (λ x. B.before bound.now x ≡ true) (λ x. B.before bound.now x ≡ false)
+            self.now.elements result }
+    {
+        count_in(&self.store, bound)
     }
 
     /// The first element that isn't before the bound.
