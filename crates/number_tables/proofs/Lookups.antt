@@ -1,10 +1,7 @@
 -- Where a term's number is among ascending ones.
-use Rattle.std.proofs.Common.{◌≡◌, ◌∙◌, ◌⊎◌, ◌↔◌, ℕ, ◌<◌, List, [], ◌∷◌, ◌++◌, true, false, length, get_or, Option, None, Some, if◌then◌else◌, refl, sym, subst, ap, inl, inr, arith}
-use Rattle.std.proofs.lemmas.Bool.{true≢false}
-use Rattle.std.proofs.lemmas.Cmp.{tied_itself, eq_by_cmp_equiv}
-use Rattle.std.proofs.lemmas.List.{length-append}
+use Rattle.std.proofs.Common.{◌≡◌, ◌∙◌, ◌↔◌, ℕ, List, [], ◌∷◌, ◌++◌, Bool, true, length, get_or, Option, None, Some, if◌then◌else◌, refl, sym, subst, ap, inl, inr}
+use Rattle.std.proofs.lemmas.Cmp.{tied_itself, nat_list_cmp_total}
 use Rattle.std.proofs.lemmas.List.Quantifiers.{position-Some}
-use Rattle.std.proofs.lemmas.Map.Keys.{IsDistinct-push}
 use Rattle.std.proofs.lemmas.Option.{slice_get-get_or}
 use Rattle.std.specs.Cmp.Lexicographic.{slice_cmp}
 use Rattle.std.specs.List.{IsDistinct, slice_get}
@@ -13,19 +10,22 @@ use Rattle.std.specs.declared.cmp.Ordering.{Ordering}
 use Rattle.std.specs.declared.cmp.Ordering.TheVariants.{Less, Equal}
 use Rattle.rdf_terms.specs.declared.terms.Term.{Term}
 use Rattle.rdf_terms.specs.Order.{term_cmp}
-use Rattle.rdf_terms.specs.OrderLaws.{both_equal, term_exact, term_total}
+use Rattle.rdf_terms.specs.OrderLaws.{both_equal, term_exact}
 use Rattle.rdf_terms.specs.Spelling.{term_text}
 use Rattle.number_tables.specs.TableNumbers.{with_new_value}
 use Rattle.tree_clock.specs.Lists.{Has, IsAscending}
 use Rattle.chunked_list.proofs.of_hinted_chunks.of_mld_ops.AscendingLaws.{below_member, below_from_members}
 use Rattle.chunked_list.specs.Parted.{IsParted, IsFirstOf}
+use Rattle.number_tables.specs.declared.buckets.TaggedNumber.{TaggedNumber}
 use Rattle.number_tables.specs.declared.hashed.HashedNumber.{HashedNumber}
-use Rattle.number_tables.specs.HashedTerms.{term_hash, hash_cmp, hashed_term_text, term_text_at, sought_cmp, hashed_cmp, is_before_sought, IsHashed, IsTermTable}
+use Rattle.number_tables.specs.HashBuckets.{HasTagged, IsVacancy, AreStanding}
+use Rattle.number_tables.specs.HashedTerms.{term_hash, hash_cmp, hashed_term_text, term_text_at, sought_cmp, hashed_cmp, is_before_sought, IsHashed}
 use Rattle.number_tables.specs.HashedLaws.{cmp_by_key, keyed_total}
 use Rattle.number_tables.specs.TableNumbers.{number_of_term}
+use Rattle.number_tables.specs.TermFinding.{FindsTerm}
 use Rattle.number_tables.proofs.Hashes.{below_term, terms_by_text}
 use Rattle.number_tables.proofs.Numbers.{placed_term, term_decides, told_equal}
-use Rattle.number_tables.proofs.Seeking.{absent_any, first_has, found_any, get_new, get_old, get_push, none_by, one_inside, sought_divides}
+use Rattle.number_tables.proofs.Seeking.{absent_any, first_has, found_any, get_old, none_by, one_inside, sought_divides}
 
 -- ---- the number of a term
 
@@ -47,93 +47,86 @@ text_found None term e = absurd (apart (below_term term ∙ e))
     apart q = cc
 text_found (Some own) term e = ap (λ t. Some t) (text_told own term e)
 
--- a number whose term compares as equal is the number of the term
-pub number_found : (terms : List Term) (places : List HashedNumber) (number : ℕ) (term : Term) → IsTermTable terms places
-    → is_eq (slice_cmp nat_cmp (term_text_at terms number) (term_text term)) ≡ true → Some number ≡ number_of_term terms term
-number_found terms places number term is e =
-    let own = text_found (slice_get terms number) term (told_equal (slice_cmp nat_cmp (term_text_at terms number) (term_text term)) e) in
-    sym (placed_term terms number term term is.apart own ((term_decides term term).1 refl))
+-- whether a number's term compares as equal tells whether it is that term
+pub told_at : (terms : List Term) (number : ℕ) (term : Term) (o : Ordering) (b : Bool) → o ≡ slice_cmp nat_cmp (term_text_at terms number) (term_text term)
+    → b ≡ is_eq o → (b ≡ true) ↔ (slice_get terms number ≡ Some term)
+told_at terms number term o b e f = (
+  λ h. text_found (slice_get terms number) term (told_equal (slice_cmp nat_cmp (term_text_at terms number) (term_text term)) (sym (ap is_eq e) ∙ sym f ∙ h)),
+  λ h. f ∙ ap is_eq (e ∙ ap (λ t. slice_cmp nat_cmp (hashed_term_text t) (term_text term)) h ∙ tied_itself nat_list_cmp_total (term_text term)),
+)
 
--- the number of a term stands with its hash
-hashed_number : (terms : List Term) (places : List HashedNumber) (term : Term) (number : ℕ) → IsTermTable terms places → number_of_term terms term ≡ Some number
-    → Has places (record { hash = term_hash term; number = number }) × (slice_get terms number ≡ Some term)
-hashed_number terms places term number is h =
-    let at = position-Some (eq_by_cmp term_cmp term) terms number term h in
-    let own : term ≡ get_or terms number term = (term_decides term (get_or terms number term)).0 at.1 in
-    let found : slice_get terms number ≡ Some term = slice_get-get_or terms number term at.0 ∙ ap (λ t. Some t) (sym own) in
-    ((is.members (record { hash = term_hash term; number = number })).1 (term, found, refl), found)
+-- ---- what is looked up in order
 
 equal_parts : (o p : Ordering) → ordering_then o p ≡ Equal → p ≡ Equal
 equal_parts o p h = (both_equal o p h).1
 
--- a term has no number where the first that isn't before its hash and text has another text, or there is none
-number_absent : (terms : List Term) (places : List HashedNumber) (first : Option HashedNumber) (hash : ℕ) (term : Term) → IsTermTable terms places → hash ≡ term_hash term
-    → IsFirstOf (is_before_sought terms hash (term_text term)) places first
-    → ((found : HashedNumber) → first ≡ Some found → is_eq (slice_cmp nat_cmp (term_text_at terms found.number) (term_text term)) ≡ false) → None ≡ number_of_term terms term
-number_absent terms places first hash term is e f other = none_by (number_of_term terms term) (λ number h. found number h)
+module _ (terms : List Term) (places : List HashedNumber) (hash : ℕ) (term : Term) (ascending : IsAscending (hashed_cmp terms) places) where
+  -- where the first that isn't before a hash and a text is of another term, no number that stands with that hash is the term's
+  absent_in_order : (first : Option HashedNumber) → IsFirstOf (is_before_sought terms hash (term_text term)) places first
+      → ((found : HashedNumber) → first ≡ Some found → ¬ (slice_get terms found.number ≡ Some term))
+      → (number : ℕ) → Has places (record { hash = hash; number = number }) → ¬ (slice_get terms number ≡ Some term)
+  absent_in_order first f other number h g =
+      let has =
+      first_has cmp_by_key keyed_total (key_at terms) (λ (place : HashedNumber). place.number) (hash, term_text term) places first
+      (record { hash = hash; number = number }) ascending f h alike
+      in
+      let same = equal_parts (hash_cmp has.0.hash hash) (slice_cmp nat_cmp (term_text_at terms has.0.number) (term_text term)) has.2 in
+      other has.0 has.1 (text_found (slice_get terms has.0.number) term same)
+    where
+      alike : sought_cmp terms (record { hash = hash; number = number }) hash (term_text term) ≡ Equal
+      alike =
+          ap (λ o. ordering_then (hash_cmp hash hash) (slice_cmp nat_cmp (hashed_term_text o) (term_text term))) g
+          ∙ tied_itself keyed_total (hash, term_text term)
+
+  pub absent_behind : IsFirstOf (is_before_sought terms hash (term_text term)) places None
+      → (number : ℕ) → Has places (record { hash = hash; number = number }) → ¬ (slice_get terms number ≡ Some term)
+  absent_behind f = absent_in_order None f (λ found e. none_found found e)
+    where
+      none_found : (found : HashedNumber) → None ≡ Some found → ¬ (slice_get terms found.number ≡ Some term)
+      none_found found e = cc
+
+  pub absent_at : (first : HashedNumber) → IsFirstOf (is_before_sought terms hash (term_text term)) places (Some first) → ¬ (slice_get terms first.number ≡ Some term)
+      → (number : ℕ) → Has places (record { hash = hash; number = number }) → ¬ (slice_get terms number ≡ Some term)
+  absent_at first f other = absent_in_order (Some first) f (λ found e. other_found found e)
+    where
+      other_found : (found : HashedNumber) → Some first ≡ Some found → ¬ (slice_get terms found.number ≡ Some term)
+      other_found found e = subst (λ (w : HashedNumber). ¬ (slice_get terms w.number ≡ Some term)) (one_inside first found e) other
+
+-- ---- what a look-up says of the term's number
+
+module _ (terms : List Term) (slots : List TaggedNumber) (places : List HashedNumber) (hash : ℕ) (term : Term) (apart : IsDistinct (eq_by_cmp term_cmp) terms) (is : AreStanding terms (length terms) slots places) (e : hash ≡ term_hash term)
   where
-    alike : (number : ℕ) → slice_get terms number ≡ Some term → sought_cmp terms (record { hash = term_hash term; number = number }) hash (term_text term) ≡ Equal
-    alike number g =
-        ap (λ h. sought_cmp terms (record { hash = term_hash term; number = number }) h (term_text term)) e
-        ∙ ap (λ o. ordering_then (hash_cmp (term_hash term) (term_hash term)) (slice_cmp nat_cmp (hashed_term_text o) (term_text term))) g
-        ∙ tied_itself keyed_total (term_hash term, term_text term)
+    pub number_found : (number : ℕ) → slice_get terms number ≡ Some term → Some number ≡ number_of_term terms term
+    number_found number h = sym (placed_term terms number term term apart h ((term_decides term term).1 refl))
 
-    found : (number : ℕ) → number_of_term terms term ≡ Some number → ⊥
-    found number h =
-        let own = hashed_number terms places term number is h in
-        let has =
-        first_has cmp_by_key keyed_total (key_at terms) (λ (place : HashedNumber). place.number) (hash, term_text term) places first
-        (record { hash = term_hash term; number = number }) is.ascending f own.0 (alike number own.1)
-        in
-        let same = equal_parts (hash_cmp has.0.hash hash) (slice_cmp nat_cmp (term_text_at terms has.0.number) (term_text term)) has.2 in
-        true≢false (sym (ap is_eq same) ∙ other has.0 has.1)
+    -- it has none, where none that stands in its bucket or in order is the term's
+    pub number_absent : ((number : ℕ) → HasTagged slots hash number → ¬ (slice_get terms number ≡ Some term))
+        → ((number : ℕ) → Has places (record { hash = hash; number = number }) → ¬ (slice_get terms number ≡ Some term)) → None ≡ number_of_term terms term
+    number_absent in_bucket in_order = none_by (number_of_term terms term) (λ number h. refuted number h)
+      where
+        refuted : (number : ℕ) → number_of_term terms term ≡ Some number → ⊥
+        refuted number h =
+            let at = position-Some (eq_by_cmp term_cmp term) terms number term h in
+            let same : term ≡ get_or terms number term = (term_decides term (get_or terms number term)).0 at.1 in
+            let own : slice_get terms number ≡ Some term = slice_get-get_or terms number term at.0 ∙ ap (λ t. Some t) (sym same) in
+            elim (is.stands number term at.0 own) [
+              | inl k ↦ in_bucket number (subst (λ (h : ℕ). HasTagged slots h number) (sym e) k) own
+              | inr k ↦ in_order number (subst (λ (h : ℕ). Has places (record { hash = h; number = number })) (sym e) k) own
+            ]
 
-pub number_absent_behind : (terms : List Term) (places : List HashedNumber) (hash : ℕ) (term : Term) → IsTermTable terms places → hash ≡ term_hash term
-    → IsFirstOf (is_before_sought terms hash (term_text term)) places None → None ≡ number_of_term terms term
-number_absent_behind terms places hash term is e f = number_absent terms places None hash term is e f (λ found h. none_found found h)
-  where
-    none_found : (found : HashedNumber) → None ≡ Some found → is_eq (slice_cmp nat_cmp (term_text_at terms found.number) (term_text term)) ≡ false
-    none_found found h = cc
+    -- where its bucket has room, none stands in order
+    pub number_absent_open : ((number : ℕ) → HasTagged slots hash number → ¬ (slice_get terms number ≡ Some term)) → (place : ℕ) × IsVacancy slots hash place
+        → None ≡ number_of_term terms term
+    number_absent_open in_bucket room = number_absent in_bucket (λ number h own. is.full (record { hash = hash; number = number }) h room.0 room.1)
 
-pub number_absent_at : (terms : List Term) (places : List HashedNumber) (first : HashedNumber) (hash : ℕ) (term : Term) → IsTermTable terms places → hash ≡ term_hash term
-    → IsFirstOf (is_before_sought terms hash (term_text term)) places (Some first) → is_eq (slice_cmp nat_cmp (term_text_at terms first.number) (term_text term)) ≡ false
-    → None ≡ number_of_term terms term
-number_absent_at terms places first hash term is e f other = number_absent terms places (Some first) hash term is e f other_found
-  where
-    other_found : (found : HashedNumber) → Some first ≡ Some found → is_eq (slice_cmp nat_cmp (term_text_at terms found.number) (term_text term)) ≡ false
-    other_found found h = subst (λ (w : HashedNumber). is_eq (slice_cmp nat_cmp (term_text_at terms w.number) (term_text term)) ≡ false) (one_inside first found h) other
-
--- ---- no term
-
-none_hashed : (place : HashedNumber) → IsHashed [] place → ⊥
-none_hashed place h = cc
-
-no_table : IsTermTable [] []
-unfolding IsDistinct
-no_table = record { apart = tt; few = omega arith; members = λ place. (λ h. absurd h, λ h. absurd (none_hashed place h)); ascending = tt }
-
-pub empty_table : (terms : List Term) (places : List HashedNumber) → terms ≡ [] → places ≡ [] → IsTermTable terms places
-empty_table terms places e f = subst (λ (ts : List Term). IsTermTable ts places) (sym e) (subst (λ (ps : List HashedNumber). IsTermTable [] ps) (sym f) no_table)
+    pub number_in_order : ((number : ℕ) → HasTagged slots hash number → ¬ (slice_get terms number ≡ Some term)) → (result : Option ℕ)
+        → FindsTerm terms term (λ number. Has places (record { hash = hash; number = number })) result → result ≡ number_of_term terms term
+    number_in_order in_bucket None h = number_absent in_bucket h
+    number_in_order in_bucket (Some number) h = number_found number h
 
 -- ---- a term more
 
 module _ (terms : List Term) (term : Term) where
-  -- what is hashed stays so, and is the number of the new term or was hashed before
-  hashed_more : (place : HashedNumber) → IsHashed (terms ++ term ∷ []) place ↔ (IsHashed terms place ⊎ (place ≡ record { hash = term_hash term; number = length terms }))
-  hashed_more place = (
-    λ h. elim (get_new terms term h.0 place.number h.1) [
-      | inl k ↦ inl (h.0, k, h.2)
-      | inr k ↦ inr (place_is place (h.2 ∙ ap term_hash k.1) k.0)
-    ],
-    λ h. elim h [
-      | inl k ↦ (k.0, get_old terms term k.0 place.number k.1, k.2)
-      | inr e ↦ subst (λ (w : HashedNumber). IsHashed (terms ++ term ∷ []) w) (sym e) (term, get_push terms term, refl)
-    ],
-  )
-    where
-      place_is : (place : HashedNumber) → place.hash ≡ term_hash term → place.number ≡ length terms → place ≡ record { hash = term_hash term; number = length terms }
-      place_is place e f = λ i. record { hash = e i; number = f i }
-
   -- the texts of numbers that were hashed stay
   text_kept : (place : HashedNumber) → IsHashed terms place → term_text_at terms place.number ≡ term_text_at (terms ++ term ∷ []) place.number
   text_kept place h = ap hashed_term_text h.1 ∙ sym (ap hashed_term_text (get_old terms term h.0 place.number h.1))
@@ -152,56 +145,6 @@ module _ (terms : List Term) (term : Term) where
         (λ y k. sym (order_kept x y (h x (inl refl)) (h y (inr k))) ∙ below_member (hashed_cmp terms) x places y a.0 k),
     ascend_more places (λ y k. h y (inr k)) a.1,
   )
-
--- the table with one term more
-pub table_more : (terms : List Term) (term : Term) (places more : List HashedNumber) (hash number : ℕ) → IsTermTable terms places → number_of_term terms term ≡ None
-    → length terms < 4294967295 → hash ≡ term_hash term → number ≡ length terms
-    → IsAscending (hashed_cmp (terms ++ term ∷ [])) more
-    → ((other : HashedNumber) → Has more other ↔ (Has places other ⊎ (other ≡ record { hash = hash; number = number }))) → IsTermTable (terms ++ term ∷ []) more
-table_more terms term places more hash number is absent few e f ascending members = record {
-  apart = IsDistinct-push (eq_by_cmp_equiv term_total) terms term is.apart (absent_any (eq_by_cmp term_cmp term) terms absent);
-  few = let l = length-append terms (term ∷ []) in omega (arith, few, l);
-  members = λ place. (
-    λ h. (hashed_more terms term place).1 (elim ((members place).0 h) [
-      | inl k ↦ inl ((is.members place).0 k)
-      | inr k ↦ inr (k ∙ same)
-    ]),
-    λ h. (members place).1 (elim ((hashed_more terms term place).0 h) [
-      | inl k ↦ inl ((is.members place).1 k)
-      | inr k ↦ inr (k ∙ sym same)
-    ]),
-  );
-  ascending = ascending;
-}
-  where
-    same : ◌≡◌ {A = HashedNumber} (record { hash = hash; number = number }) (record { hash = term_hash term; number = length terms })
-    same = λ i. record { hash = e i; number = f i }
-
--- and the new term's number in it
-pub number_more : (terms : List Term) (places : List HashedNumber) (term : Term) (number : ℕ) → IsTermTable (terms ++ term ∷ []) places → number ≡ length terms
-    → number_of_term (terms ++ term ∷ []) term ≡ Some number
-number_more terms places term number is e =
-    placed_term (terms ++ term ∷ []) number term term is.apart (ap (λ n. slice_get (terms ++ term ∷ []) n) e ∙ get_push terms term) ((term_decides term term).1 refl)
-
--- a term that is pushed, where the lists are told by what they are equal to
-module _ (terms read pushed : List Term) (term : Term) (places prepared more : List HashedNumber) (hash number : ℕ) (is : IsTermTable terms places)
-    (read_is : read ≡ terms ++ term ∷ []) (pushed_is : pushed ≡ terms ++ term ∷ []) (prepared_is : prepared ≡ places) where
-  pub ascend_pushed : IsAscending (hashed_cmp read) prepared
-  ascend_pushed =
-      subst (λ (ts : List Term). IsAscending (hashed_cmp ts) prepared) (sym read_is)
-      (subst (λ (ps : List HashedNumber). IsAscending (hashed_cmp (terms ++ term ∷ [])) ps) (sym prepared_is) (ascend_more terms term places (λ place h. (is.members place).0 h) is.ascending))
-
-  pub table_pushed : number_of_term terms term ≡ None → length terms < 4294967295 → hash ≡ term_hash term → number ≡ length terms → IsAscending (hashed_cmp read) more
-      → ((other : HashedNumber) → Has more other ↔ (Has prepared other ⊎ (other ≡ record { hash = hash; number = number }))) → IsTermTable pushed more
-  table_pushed absent few e f ascending members =
-      subst (λ (ts : List Term). IsTermTable ts more) (sym pushed_is)
-      (table_more terms term places more hash number is absent few e f (subst (λ (ts : List Term). IsAscending (hashed_cmp ts) more) read_is ascending)
-      (subst (λ (ps : List HashedNumber). (other : HashedNumber) → Has more other ↔ (Has ps other ⊎ (other ≡ record { hash = hash; number = number }))) prepared_is members))
-
-  pub number_pushed : IsTermTable pushed more → number ≡ length terms → number_of_term pushed term ≡ Some number
-  number_pushed table e =
-      subst (λ (ts : List Term). number_of_term ts term ≡ Some number) (sym pushed_is)
-      (number_more terms more term number (subst (λ (ts : List Term). IsTermTable ts more) pushed_is table) e)
 
 -- an inserted term: it is there, or comes behind all others
 pub inserted_old : (terms : List Term) (term : Term) (number : ℕ) → number_of_term terms term ≡ Some number → terms ≡ with_new_value (eq_by_cmp term_cmp) terms term

@@ -1,17 +1,15 @@
 -- Terms by their hashes. The private table of terms cites it: how its numbers are ordered, where a term is looked for, and what the
 -- table keeps.
-use Rattle.std.specs.Prelude.{◌≡◌, ℕ, zero, suc, ◌*◌, ◌/◌, ◌%◌, ◌^◌, ◌<◌, List, [], ◌∷◌, ◌↔◌, Option, None, Some, Bool, fold, length}
+use Rattle.std.specs.Prelude.{◌≡◌, ℕ, zero, suc, ◌*◌, ◌/◌, ◌%◌, ◌^◌, List, [], ◌∷◌, Option, None, Some, Bool, fold}
 use Rattle.std.specs.Cmp.Lexicographic.{slice_cmp}
 use Rattle.std.specs.Hash.FoldHasher as folding
-use Rattle.std.specs.List.{IsDistinct, slice_get}
-use Rattle.std.specs.Ordering.{nat_cmp, ordering_then, eq_by_cmp, is_lt}
+use Rattle.std.specs.List.{slice_get}
+use Rattle.std.specs.Ordering.{nat_cmp, ordering_then, is_lt}
 use Rattle.std.specs.declared.cmp.Ordering.{Ordering}
 use Rattle.rdf_terms.specs.declared.terms.Term.{Term}
 use Rattle.rdf_terms.specs.declared.terms.Term.TheVariants as terms
 use Rattle.rdf_terms.specs.Hashed.{term_fed}
-use Rattle.rdf_terms.specs.Order.{term_cmp}
 use Rattle.rdf_terms.specs.Spelling.{term_text}
-use Rattle.tree_clock.specs.Lists.{Has, IsAscending}
 use Rattle.number_tables.specs.declared.hashed.HashedNumber.{HashedNumber}
 use Rattle.number_tables.specs.declared.hashed.Wanted.{Wanted}
 use Rattle.number_tables.specs.declared.hashed.Wanted.TheVariants as wanted
@@ -66,10 +64,3 @@ wanted_term (wanted.Term term) = term.now
 -- the number is that of a term, and stands with that term's hash
 abbrev pub IsHashed : List Term → HashedNumber → Type 0
 IsHashed terms place = (term : Term) × (slice_get terms place.number ≡ Some term) × (place.hash ≡ term_hash term)
-
--- what a table of terms keeps: no term stands twice, and the numbers of all are there with their hashes, in order, and no others
-pub record IsTermTable (terms : List Term) (places : List HashedNumber) : Type 0 where
-  pub apart : IsDistinct (eq_by_cmp term_cmp) terms
-  pub few : length terms < 2 ^ 32
-  pub members : (place : HashedNumber) → Has places place ↔ IsHashed terms place
-  pub ascending : IsAscending (hashed_cmp terms) places

@@ -1,8 +1,9 @@
 //! Terms by their hashes.
 //!
 //! The hasher has a fixed seed, so strangers can choose terms of one hash. Those are told apart by their texts, by halves.
-ghost use Rattle.std.specs.Prelude.{◌≡◌, drop};
+ghost use Rattle.std.specs.Prelude.{◌≡◌, ◌↔◌, Some, IfOk, IsTrue, drop};
 ghost use Rattle.std.specs.Cmp.Lexicographic.{slice_cmp};
+ghost use Rattle.std.specs.List.{slice_get};
 ghost use Rattle.std.specs.Ordering.{nat_cmp};
 ghost use Rattle.rdf_terms.specs.declared.terms.Term.TheVariants as terms;
 ghost use Rattle.rdf_terms.specs.Spelling.{term_text};
@@ -11,6 +12,7 @@ ghost use Rattle.number_tables.specs.HashedTerms.{hash_fed, hash_text, term_hash
 
 use chunked_list::Keyed;
 use rdf_terms::{Iri, Term, cmp_iris};
+use std::alloc::AllocError;
 use std::cmp::Ordering;
 use std::hash::{FoldHasher, Hash, Hasher};
 
@@ -65,6 +67,23 @@ impl<'a> Wanted<'a> {
             Wanted::Iri(iri) => hash_of(*iri),
             Wanted::Term(term) => hash_of(*term),
         }
+    }
+
+    /// The term, which shares the texts of what is looked up.
+    pub(crate) fn share(&self) -> Result<Term, AllocError>
+        ensures { IfOk result (λ term. term ≡ wanted_term self.now) }
+    {
+        match self {
+            Wanted::Iri(iri) => Ok(Term::Iri(iri.share()?)),
+            Wanted::Term(term) => term.share(),
+        }
+    }
+
+    /// Whether it has a number.
+    pub(crate) fn is_at(&self, terms: &[Term], number: u32) -> bool
+        ensures { IsTrue result ↔ (slice_get terms.now number ≡ Some (wanted_term self.now)) }
+    {
+        self.compare_at(terms, number).is_eq()
     }
 
     /// How the term that has a number compares with the wanted one. Where none has, that is less.

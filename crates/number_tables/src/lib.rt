@@ -1,6 +1,8 @@
 //! Tables that give numbers to terms and paths, in which strangers can't slow a look-up down.
 #![tactic(auto)]
 
+mod buckets;
+mod hash_index;
 mod hashed;
 mod path_table;
 mod sought;

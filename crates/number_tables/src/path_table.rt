@@ -141,7 +141,7 @@ impl PathTable {
 
     /// The number of a path, which gets one where it has none. Where memory is wanting, or there are 2^32 - 1 paths, no path
     /// gets one.
-    pub fn insert(&mut self, path: &Path) -> Result<u32, AllocError>
+    pub fn give(&mut self, path: &Path) -> Result<u32, AllocError>
         ensures number { IfOk result (λ number. number_of_path self.new path.now ≡ Some number) }
         ensures ok { OnOk result (self.new ≡ with_new_value (pointwise nat_eq) self.old path.now) }
         ensures err { OnErr result (self.new ≡ self.old) }

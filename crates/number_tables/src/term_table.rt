@@ -5,11 +5,12 @@ ghost use Rattle.std.specs.Option.{option_copied};
 ghost use Rattle.std.specs.Ordering.{eq_by_cmp};
 ghost use Rattle.rdf_terms.specs.declared.terms.Term.TheVariants as terms;
 ghost use Rattle.rdf_terms.specs.Order.{term_cmp};
-ghost use Rattle.number_tables.specs.HashedTerms.{wanted_term, IsTermTable};
+ghost use Rattle.number_tables.specs.HashBuckets.{AreStanding, IsTermTable};
+ghost use Rattle.number_tables.specs.HashedTerms.{term_hash, wanted_term};
 ghost use Rattle.number_tables.specs.TableNumbers.{number_of_term, with_new_value};
 
-use crate::hashed::{HashedNumber, Wanted};
-use crate::sought::{ByHash, Sought};
+use crate::hash_index::{HashIndex, find, grow, make_place, put};
+use crate::hashed::Wanted;
 use chunked_list::Chunked;
 use rdf_terms::{Iri, Term};
 use std::alloc::{AllocError, Global};
@@ -20,24 +21,26 @@ const TERMS_LIMIT: usize = 4_294_967_295;
 
 /// Terms, each once; a number is a term's place, and stays what it is. Contracts see the list of the terms.
 ///
-/// Beside them stand their numbers, in the order of the terms' hashes, and terms of one hash in the order of their texts. A
-/// look-up goes by halves, so it compares few texts with the wanted one, whatever the terms are.
+/// Beside them stand their numbers, in buckets by the terms' hashes; those that find no room in their bucket stand in order, by
+/// hash and then by text. So a look-up looks at one bucket and, where that is full, goes by halves: it compares few texts with
+/// the wanted one, whatever the terms are.
 #[derive(Drop)]
 pub struct TermTable {
     terms: Vec<Term>,
-    places: Chunked<HashedNumber>,
+    hashes: Vec<u64>,
+    index: HashIndex,
 }
 
 impl Model for TermTable {
     ghost use Rattle.std.specs.Prelude.{List};
     ghost use Rattle.rdf_terms.specs.declared.terms.Term.{Term};
-    ghost use Rattle.number_tables.specs.HashedTerms.{IsTermTable};
+    ghost use Rattle.number_tables.specs.HashBuckets.{IsTermTable};
 
     ghost Value = { List Term };
 
     ghost view = { λ table. table.terms.items };
 
-    ghost invariant = { λ table. IsTermTable table.terms.items table.places.elements };
+    ghost invariant = { λ table. IsTermTable table.terms.items table.hashes.items table.index.slots.items table.index.places.elements };
 }
 
 impl TermTable {
@@ -47,7 +50,11 @@ impl TermTable {
     {
         TermTable {
             terms: Vec::new(alloc),
-            places: Chunked::new(alloc),
+            hashes: Vec::new(alloc),
+            index: HashIndex {
+                slots: Vec::new(alloc),
+                places: Chunked::new(alloc),
+            },
         }
     }
 
@@ -70,57 +77,89 @@ impl TermTable {
     pub fn number(&self, term: &Term) -> Option<u32>
         ensures { result ≡ number_of_term self.now term.now }
     {
-        find(&self.terms, &self.places, &Wanted::Term(term))
+        find_wanted(&self.terms, &self.index, &Wanted::Term(term))
     }
 
     /// The number of an IRI as a term, where it has one.
     pub fn iri_number(&self, iri: &Iri) -> Option<u32>
         ensures { result ≡ number_of_term self.now (terms.Iri iri.now) }
     {
-        find(&self.terms, &self.places, &Wanted::Iri(iri))
+        find_wanted(&self.terms, &self.index, &Wanted::Iri(iri))
     }
 
     /// The number of a term, which gets one where it has none. Where memory is wanting, or there are 2^32 - 1 terms, no term
     /// gets one.
-    pub fn insert(&mut self, term: Term) -> Result<u32, AllocError>
-        ensures number { IfOk result (λ number. number_of_term self.new term ≡ Some number) }
-        ensures ok { OnOk result (self.new ≡ with_new_value (eq_by_cmp term_cmp) self.old term) }
+    pub fn give(&mut self, term: &Term) -> Result<u32, AllocError>
+        ensures number { IfOk result (λ number. number_of_term self.new term.now ≡ Some number) }
+        ensures ok { OnOk result (self.new ≡ with_new_value (eq_by_cmp term_cmp) self.old term.now) }
         ensures err { OnErr result (self.new ≡ self.old) }
         ensures apart { IsDistinct (eq_by_cmp term_cmp) self.new }
     {
-        match find(&self.terms, &self.places, &Wanted::Term(&term)) {
-            Some(number) => Ok(number),
-            None => add(&mut self.terms, &mut self.places, term),
-        }
+        give_wanted(
+            &mut self.terms,
+            &mut self.hashes,
+            &mut self.index,
+            &Wanted::Term(term),
+        )
+    }
+
+    /// The number of an IRI as a term, which gets one where it has none.
+    pub fn give_iri(&mut self, iri: &Iri) -> Result<u32, AllocError>
+        ensures number { IfOk result (λ number. number_of_term self.new (terms.Iri iri.now) ≡ Some number) }
+        ensures ok { OnOk result (self.new ≡ with_new_value (eq_by_cmp term_cmp) self.old (terms.Iri iri.now)) }
+        ensures err { OnErr result (self.new ≡ self.old) }
+        ensures apart { IsDistinct (eq_by_cmp term_cmp) self.new }
+    {
+        give_wanted(
+            &mut self.terms,
+            &mut self.hashes,
+            &mut self.index,
+            &Wanted::Iri(iri),
+        )
     }
 }
 
-// The number of a term, where it has one.
-fn find(terms: &[Term], places: &Chunked<HashedNumber>, wanted: &Wanted<'_>) -> Option<u32>
-    requires { IsTermTable terms.now places.now.elements }
+// The number of what is looked up, where it has one.
+fn find_wanted(terms: &[Term], index: &HashIndex, wanted: &Wanted<'_>) -> Option<u32>
+    requires apart { IsDistinct (eq_by_cmp term_cmp) terms.now }
+    requires is { AreStanding terms.now (length terms.now) index.now.slots.items index.now.places.elements }
     ensures { result ≡ number_of_term terms.now (wanted_term wanted.now) }
 {
+    find(terms, index, wanted.hash(), wanted)
+}
+
+// The number of what is looked up, which gets one where it has none.
+fn give_wanted(
+    terms: &mut Vec<Term>,
+    hashes: &mut Vec<u64>,
+    index: &mut HashIndex,
+    wanted: &Wanted<'_>,
+) -> Result<u32, AllocError>
+    requires { IsTermTable terms.old.items hashes.old.items index.old.slots.items index.old.places.elements }
+    ensures is { IsTermTable terms.new.items hashes.new.items index.new.slots.items index.new.places.elements }
+    ensures number { IfOk result (λ number. number_of_term terms.new.items (wanted_term wanted.now) ≡ Some number) }
+    ensures ok { OnOk result (terms.new.items ≡ with_new_value (eq_by_cmp term_cmp) terms.old.items (wanted_term wanted.now)) }
+    ensures err { OnErr result (terms.new.items ≡ terms.old.items) }
+{
     let hash = wanted.hash();
-    let place = places.first_from(&Sought {
-        terms,
-        hash,
-        wanted,
-    })?;
-    if wanted.compare_at(terms, place.number).is_eq() {
-        return Some(place.number);
+    match find(terms, index, hash, wanted) {
+        Some(number) => Ok(number),
+        None => add(terms, hashes, index, hash, wanted.share()?),
     }
-    None
 }
 
 // The number of a term that has none yet: the next one.
 fn add(
     terms: &mut Vec<Term>,
-    places: &mut Chunked<HashedNumber>,
+    hashes: &mut Vec<u64>,
+    index: &mut HashIndex,
+    hash: u64,
     term: Term,
 ) -> Result<u32, AllocError>
-    requires is { IsTermTable terms.old.items places.old.elements }
+    requires is { IsTermTable terms.old.items hashes.old.items index.old.slots.items index.old.places.elements }
+    requires hash { hash ≡ term_hash term }
     requires absent { number_of_term terms.old.items term ≡ None }
-    ensures is { IsTermTable terms.new.items places.new.elements }
+    ensures is { IsTermTable terms.new.items hashes.new.items index.new.slots.items index.new.places.elements }
     ensures number { IfOk result (λ number. number_of_term terms.new.items term ≡ Some number) }
     ensures ok { OnOk result (terms.new.items ≡ terms.old.items ++ term ∷ []) }
     ensures err { OnErr result (terms.new.items ≡ terms.old.items) }
@@ -130,11 +169,13 @@ fn add(
         return Err(AllocError);
     }
     let alloc = *terms.allocator();
+    grow(alloc, terms, hashes, index)?;
     terms.reserve(1)?;
-    places.prepare(alloc, 1)?;
-    let hash = Wanted::Term(&term).hash();
+    hashes.reserve(1)?;
+    make_place(alloc, index, hash)?;
     let number = count as u32;
     terms.push_reserved(term);
-    places.insert(&ByHash { terms: &*terms }, HashedNumber { hash, number });
+    hashes.push_reserved(hash);
+    put(index, terms, hash, number);
     Ok(number)
 }

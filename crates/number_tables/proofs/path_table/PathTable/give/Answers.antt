@@ -2,7 +2,7 @@ use Rattle.std.proofs.Common.{◌∙◌, ◌++◌, ◌∷◌, ℕ, [], List, ap,
 use Rattle.std.proofs.lemmas.Result.{on_ok_weaker}
 use Rattle.number_tables.specs.TableNumbers.{number_of_path}
 use Rattle.number_tables.proofs.PathLookups.{path_inserted_old, path_inserted_new}
-use Rattle.number_tables.proofs.path_table.PathTable.insert.Goals as goal
+use Rattle.number_tables.proofs.path_table.PathTable.give.Goals as goal
 
 pub returns-in-Some-clause-ok : goal.returns-in-Some-clause-ok
 returns-in-Some-clause-ok c =
