@@ -4,19 +4,20 @@ use Rattle.std.proofs.lemmas.Bool.{false≢true, cases_lt}
 use Rattle.std.specs.Option.{is_some}
 use Rattle.mld_ops.specs.declared.tagged.Tagged.{Tagged}
 use Rattle.tree_clock.specs.Lists.{Has}
-use Rattle.pair_orders.specs.Keys.{slotted_key, key_numbers, slot_at, shape_cmp, shape_total}
+use Rattle.pair_orders.specs.Keys.{slotted_key, key_numbers, slot_at}
 use Rattle.pair_orders.specs.PairEntries.{StandOnce, HasNumbers, HasTerms, PairsValue, entries_of}
-use Rattle.pair_orders.specs.KeptPairs.{AreSlots, PutsAt, AreLists, AreHeld, IsPairs, pairs_value, dots_in}
+use Rattle.pair_orders.specs.KeptPairs.{AreSlots, PutsAt, AreLists, AreHeld, IsPairs, pairs_value, list_at, dots_in}
 use Rattle.pair_orders.specs.declared.keys.Key.{Key}
 use Rattle.pair_orders.specs.declared.keys.Numbers.{Numbers}
 use Rattle.pair_orders.specs.declared.keys.Shape.TheVariants.{Dot}
 use Rattle.pair_orders.specs.declared.lists.Lists.{Lists}
 use Rattle.pair_orders.specs.declared.slots.Slots.{Slots}
-use Rattle.pair_orders.proofs.Once.{once_ascending, length_more}
+use Rattle.pair_orders.proofs.Once.{length_more}
+use Rattle.pair_orders.proofs.Ranking.{once_keys}
 use Rattle.pair_orders.proofs.Holding.{has_entry, has_numbers, some_of, held_kept, once_entries, inserted_held, inserted_entries, removed_held}
 
 pub once_by_dot : (lists : Lists) → AreLists lists → StandOnce (dots_in lists)
-once_by_dot lists are = once_ascending (shape_cmp Dot) (shape_total Dot) (dots_in lists) are.dot
+once_by_dot lists are = once_keys Dot (list_at lists 0).elements are.dot
 
 -- no two pairs have the same numbers
 pub numbers_once : (slots : Slots) (lists : Lists) (pairs : PairsValue) → pairs_value slots lists ≡ pairs → IsPairs slots lists → StandOnce (map (λ entry. entry.0) pairs.pairs)

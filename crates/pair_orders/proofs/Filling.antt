@@ -5,11 +5,12 @@ use Rattle.chunked_list.specs.Room.{ChunkedValue}
 use Rattle.mld_ops.specs.declared.tagged.Tagged.{Tagged}
 use Rattle.mld_ops.proofs.AscendingLaws.{has_append, has_left, has_right}
 use Rattle.tree_clock.specs.Lists.{Has}
-use Rattle.pair_orders.specs.Keys.{slotted_key, key_numbers, slot_at}
+use Rattle.pair_orders.specs.Keys.{slotted_key, key_numbers, keys_by, slot_at}
 use Rattle.pair_orders.specs.PairEntries.{StandOnce, entries_of}
-use Rattle.pair_orders.specs.KeptPairs.{AreSlots, AreFilled, AreHeld, AreKeysOf, AreLists, IsPairs, PutsAt, dots_in}
+use Rattle.pair_orders.specs.KeptPairs.{AreSlots, AreFilled, AreKeysOf, AreLists, IsPairs, PutsAt, dots_in}
 use Rattle.pair_orders.specs.declared.keys.Key.{Key}
 use Rattle.pair_orders.specs.declared.keys.Numbers.{Numbers}
+use Rattle.pair_orders.specs.declared.keys.RankedKey.{RankedKey}
 use Rattle.pair_orders.specs.declared.keys.Shape.TheVariants.{Dot, Subject, Predicate, Object}
 use Rattle.pair_orders.specs.declared.lists.Lists.{Lists}
 use Rattle.pair_orders.specs.declared.slots.Slots.{Slots}
@@ -123,22 +124,22 @@ filled_none slots keys e are none room = subst (λ (ks : List Key). AreFilled sl
 })
 
 -- lists in each order, of the same keys
-module _ (lists : Lists) (d s p o : ChunkedValue Key) (keys : List Key) (e : lists.keys ≡ d ∷ s ∷ p ∷ o ∷ []) (dot : AreKeysOf Dot d.elements keys) (subject : AreKeysOf Subject s.elements keys)
+module _ (lists : Lists) (d s p o : ChunkedValue RankedKey) (keys : List Key) (e : lists.keys ≡ d ∷ s ∷ p ∷ o ∷ []) (dot : AreKeysOf Dot d.elements keys) (subject : AreKeysOf Subject s.elements keys)
     (predicate : AreKeysOf Predicate p.elements keys) (object : AreKeysOf Object o.elements keys) where
-  over : (xs : List Key) → ((key : Key) → Has xs key ↔ Has keys key) → (key : Key) → Has xs key ↔ Has d.elements key
+  over : (xs : List Key) → ((key : Key) → Has xs key ↔ Has keys key) → (key : Key) → Has xs key ↔ Has (keys_by Dot d.elements) key
   over xs same key = (λ h. (dot.same key).1 ((same key).0 h), λ h. (same key).1 ((dot.same key).0 h))
 
   pub lists_are : AreLists lists
-  lists_are = subst (λ (xs : List (ChunkedValue Key)). AreLists (record { keys = xs })) (sym e) (record {
+  lists_are = subst (λ (xs : List (ChunkedValue RankedKey)). AreLists (record { keys = xs })) (sym e) (record {
     four = refl;
     dot = dot.ascending;
-    subject = record { ascending = subject.ascending; same = over s.elements subject.same };
-    predicate = record { ascending = predicate.ascending; same = over p.elements predicate.same };
-    object = record { ascending = object.ascending; same = over o.elements object.same };
+    subject = record { ascending = subject.ascending; same = over (keys_by Subject s.elements) subject.same };
+    predicate = record { ascending = predicate.ascending; same = over (keys_by Predicate p.elements) predicate.same };
+    object = record { ascending = object.ascending; same = over (keys_by Object o.elements) object.same };
   })
 
   pub lists_same : (key : Key) → Has (dots_in lists) key ↔ Has keys key
-  lists_same key = subst (λ (xs : List (ChunkedValue Key)). Has (dots_in (record { keys = xs })) key ↔ Has keys key) (sym e) (dot.same key)
+  lists_same key = subst (λ (xs : List (ChunkedValue RankedKey)). Has (dots_in (record { keys = xs })) key ↔ Has keys key) (sym e) (dot.same key)
 
 pub built_is : (slots : Slots) (lists : Lists) (keys : List Key) → AreFilled slots keys → AreLists lists → ((key : Key) → Has (dots_in lists) key ↔ Has keys key) → IsPairs slots lists
 built_is slots lists keys filled are same =

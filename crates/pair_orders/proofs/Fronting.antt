@@ -13,9 +13,8 @@ use Rattle.mld_ops.proofs.AscendingLaws.{below_member}
 use Rattle.chunked_list.specs.Parted.{IsParted, IsFirstOf}
 use Rattle.chunked_list.proofs.Parting.{has_all}
 use Rattle.pair_orders.specs.KeyFronts.{HasFront, key_front_cmp, is_before_front, is_up_to_front}
-use Rattle.pair_orders.specs.Keys.{ranks, shape_cmp}
-use Rattle.pair_orders.specs.declared.keys.Key.{Key}
-use Rattle.pair_orders.specs.declared.keys.Shape.{Shape}
+use Rattle.pair_orders.specs.Keys.{row_of, ranked_cmp}
+use Rattle.pair_orders.specs.declared.keys.RankedKey.{RankedKey}
 
 -- ---- what ascends with the elements divides them
 
@@ -77,53 +76,53 @@ front_ascends (suc n) (x ∷ xs) (y ∷ ys) l = by (nat_cmp x y) (slice_cmp nat_
     by Equal a b l next = next l
     by Greater a b l next = cc
 
-module _ (shape : Shape) (front : List ℕ) where
-  begins : Key → List ℕ
-  begins key = take (length front) (ranks shape key)
+module _ (front : List ℕ) where
+  begins : RankedKey → List ℕ
+  begins key = take (length front) (row_of key)
 
-  ascends : (a b : Key) → shape_cmp shape a b ≡ Less → (slice_cmp nat_cmp (begins a) (begins b) ≡ Less) ⊎ (slice_cmp nat_cmp (begins a) (begins b) ≡ Equal)
+  ascends : (a b : RankedKey) → ranked_cmp a b ≡ Less → (slice_cmp nat_cmp (begins a) (begins b) ≡ Less) ⊎ (slice_cmp nat_cmp (begins a) (begins b) ≡ Equal)
   unfolding begins
-  ascends a b l = front_ascends (length front) (ranks shape a) (ranks shape b) l
+  ascends a b l = front_ascends (length front) (row_of a) (row_of b) l
 
-  pub before_front : (keys : List Key) → IsAscending (shape_cmp shape) keys → IsParted (is_before_front shape front) keys
+  pub before_front : (keys : List RankedKey) → IsAscending ranked_cmp keys → IsParted (is_before_front front) keys
   unfolding begins
-  before_front = parted_before (shape_cmp shape) (slice_cmp nat_cmp) nat_list_cmp_total begins ascends front
+  before_front = parted_before ranked_cmp (slice_cmp nat_cmp) nat_list_cmp_total begins ascends front
 
-  pub up_to_front : (keys : List Key) → IsAscending (shape_cmp shape) keys → IsParted (is_up_to_front shape front) keys
+  pub up_to_front : (keys : List RankedKey) → IsAscending ranked_cmp keys → IsParted (is_up_to_front front) keys
   unfolding begins
-  up_to_front = parted_up_to (shape_cmp shape) (slice_cmp nat_cmp) nat_list_cmp_total begins ascends front
+  up_to_front = parted_up_to ranked_cmp (slice_cmp nat_cmp) nat_list_cmp_total begins ascends front
 
   -- what begins so isn't in front of them
-  not_in_front : (key : Key) → HasFront shape front key → is_before_front shape front key ≡ false
+  not_in_front : (key : RankedKey) → HasFront front key → is_before_front front key ≡ false
   not_in_front key e = ap is_lt (ap (λ w. slice_cmp nat_cmp w front) e ∙ tied_itself nat_list_cmp_total front)
 
   -- what compares as equal begins so
-  pub begins_so : (key : Key) → key_front_cmp shape front key ≡ Equal → HasFront shape front key
-  begins_so key e = exact_bytes (take (length front) (ranks shape key)) front e
+  pub begins_so : (key : RankedKey) → key_front_cmp front key ≡ Equal → HasFront front key
+  begins_so key e = exact_bytes (take (length front) (row_of key)) front e
 
   -- what stands behind the first that isn't in front of them, and begins so: then the first does too
-  between : (a b : Key) → shape_cmp shape a b ≡ Less → is_before_front shape front a ≡ false → HasFront shape front b → key_front_cmp shape front a ≡ Equal
-  between a b l f e = elim (front_ascends (length front) (ranks shape a) (ranks shape b) l) [
-    | inl m ↦ absurd (true≢false (sym (ap is_lt (ap (λ w. slice_cmp nat_cmp (take (length front) (ranks shape a)) w) (sym e) ∙ m)) ∙ f))
-    | inr m ↦ ap (λ w. slice_cmp nat_cmp (take (length front) (ranks shape a)) w) (sym e) ∙ m
+  between : (a b : RankedKey) → ranked_cmp a b ≡ Less → is_before_front front a ≡ false → HasFront front b → key_front_cmp front a ≡ Equal
+  between a b l f e = elim (front_ascends (length front) (row_of a) (row_of b) l) [
+    | inl m ↦ absurd (true≢false (sym (ap is_lt (ap (λ w. slice_cmp nat_cmp (take (length front) (row_of a)) w) (sym e) ∙ m)) ∙ f))
+    | inr m ↦ ap (λ w. slice_cmp nat_cmp (take (length front) (row_of a)) w) (sym e) ∙ m
   ]
 
   -- where the first that isn't in front of them doesn't begin so, none does
-  pub first_tells : (keys : List Key) (first : Key) → IsAscending (shape_cmp shape) keys → IsFirstOf (is_before_front shape front) keys (Some first) → ¬ (key_front_cmp shape front first ≡ Equal)
-      → (key : Key) → Has keys key → ¬ HasFront shape front key
+  pub first_tells : (keys : List RankedKey) (first : RankedKey) → IsAscending ranked_cmp keys → IsFirstOf (is_before_front front) keys (Some first) → ¬ (key_front_cmp front first ≡ Equal)
+      → (key : RankedKey) → Has keys key → ¬ HasFront front key
   first_tells [] first a h n key k e = k
-  first_tells (x ∷ keys) first a (inl h) n key (inl same) e = true≢false (sym h.0 ∙ ap (is_before_front shape front) same ∙ not_in_front key e)
+  first_tells (x ∷ keys) first a (inl h) n key (inl same) e = true≢false (sym h.0 ∙ ap (is_before_front front) same ∙ not_in_front key e)
   first_tells (x ∷ keys) first a (inl h) n key (inr k) e = first_tells keys first a.1 h.1 n key k e
   first_tells (x ∷ keys) first a (inr h) n key (inl same) e =
       let q : x ≡ first = cc in
-      n (ap (key_front_cmp shape front) (sym q ∙ same) ∙ ap (λ w. slice_cmp nat_cmp w front) e ∙ tied_itself nat_list_cmp_total front)
+      n (ap (key_front_cmp front) (sym q ∙ same) ∙ ap (λ w. slice_cmp nat_cmp w front) e ∙ tied_itself nat_list_cmp_total front)
   first_tells (x ∷ keys) first a (inr h) n key (inr k) e =
       let q : x ≡ first = cc in
-      n (ap (key_front_cmp shape front) (sym q) ∙ between x key (below_member (shape_cmp shape) x keys key a.0 k) h.0 e)
+      n (ap (key_front_cmp front) (sym q) ∙ between x key (below_member ranked_cmp x keys key a.0 k) h.0 e)
 
-  pub none_tells : (keys : List Key) → IsFirstOf (is_before_front shape front) keys None → (key : Key) → Has keys key → ¬ HasFront shape front key
+  pub none_tells : (keys : List RankedKey) → IsFirstOf (is_before_front front) keys None → (key : RankedKey) → Has keys key → ¬ HasFront front key
   none_tells [] h key k e = k
-  none_tells (x ∷ keys) (inl h) key (inl same) e = true≢false (sym h.0 ∙ ap (is_before_front shape front) same ∙ not_in_front key e)
+  none_tells (x ∷ keys) (inl h) key (inl same) e = true≢false (sym h.0 ∙ ap (is_before_front front) same ∙ not_in_front key e)
   none_tells (x ∷ keys) (inl h) key (inr k) e = none_tells keys h.1 key k e
   none_tells (x ∷ keys) (inr h) key k e = cc
 

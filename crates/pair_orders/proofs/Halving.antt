@@ -15,7 +15,7 @@ digits_least m n l =
     let b = below_power n in
     length-digits_of-le 2 (length (digits_of 2 n)) m (omega arith) (omega (arith, l, b))
 
-half_digits : (n : ℕ) → 0 < n → binary_digits n ≡ binary_digits (n / 2) + 1
+pub half_digits : (n : ℕ) → 0 < n → binary_digits n ≡ binary_digits (n / 2) + 1
 unfolding binary_digits
 half_digits n l = length-digits_of_step 2 n (omega arith) l
 

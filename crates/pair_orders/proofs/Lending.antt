@@ -1,5 +1,6 @@
 -- Pairs that are lent, key by key, and what an order shows.
-use Rattle.std.proofs.Common.{◌≡◌, ◌∙◌, ◌+◌, ◌<◌, ℕ, List, [], ◌∷◌, ◌++◌, ◌↔◌, Bool, not, ◌&&◌, nat_eq, nat_le, Option, Result, Ok, Err, IfOk, length, map, take, get_or, refl, sym, ap, subst, arith, append_assoc}
+use Rattle.std.proofs.Common.{◌≡◌, ◌∙◌, ◌+◌, ◌<◌, ℕ, List, [], ◌∷◌, ◌++◌, ◌↔◌, Bool, not, ◌&&◌, nat_eq, nat_le, Option, Result, Ok, Err, IfOk, length, map, take, drop, get_or, refl, sym, ap, subst, inl, inr, arith, append_assoc}
+use Rattle.std.proofs.lemmas.Bool.{cases_Bool}
 use Rattle.std.proofs.lemmas.Bool.Decides.{nat_tests}
 use Rattle.std.proofs.lemmas.List.{take_more, map-append}
 use Rattle.std.proofs.lemmas.List.Elements.{filter_map-append}
@@ -13,42 +14,37 @@ use Rattle.chunked_list.specs.Joined.{joined_chunks}
 use Rattle.chunked_list.specs.Parted.{is_between}
 use Rattle.chunked_list.proofs.JoinedLaws.{joined_more}
 use Rattle.pair_orders.specs.KeyFronts.{is_before_front, is_up_to_front}
-use Rattle.pair_orders.specs.Keys.{key_numbers}
-use Rattle.pair_orders.specs.PairEntries.{StandOnce, keyed_entry, entries_of, is_of_ticks}
+use Rattle.pair_orders.specs.Keys.{key_numbers, key_by, keys_by, numbers_in, slot_at, slot_pairs}
+use Rattle.pair_orders.specs.PairEntries.{StandOnce, entries_of, is_of_ticks}
 use Rattle.pair_orders.specs.KeptPairs.{AreHeld}
 use Rattle.pair_orders.specs.declared.keys.Key.{Key}
 use Rattle.pair_orders.specs.declared.keys.Numbers.{Numbers}
+use Rattle.pair_orders.specs.declared.keys.RankedKey.{RankedKey}
+use Rattle.pair_orders.specs.declared.keys.Shape.{Shape}
 use Rattle.pair_orders.specs.declared.keys.Shape.TheVariants.{Dot}
 use Rattle.pair_orders.proofs.Holding.{same_entries, entries_filter, length_entries, once_entries, held_same}
 use Rattle.pair_orders.proofs.Once.{length_same}
+use Rattle.pair_orders.proofs.Ranking.{keys_piece, slots_pairs}
 
--- the pairs of keys
-abbrev pub pairs_of : List (Option Tagged) → List Key → List Tagged
-pairs_of slots keys = map (λ entry. entry.1) (entries_of slots keys)
+slots_append : (slots : List (Option Tagged)) (xs ys : List ℕ) → slot_pairs slots (xs ++ ys) ≡ slot_pairs slots xs ++ slot_pairs slots ys
+slots_append slots xs ys = filter_map-append (slot_at slots) xs ys
 
-pairs_append : (slots : List (Option Tagged)) (keys more : List Key) → pairs_of slots (keys ++ more) ≡ pairs_of slots keys ++ pairs_of slots more
-pairs_append slots keys more = ap (map (λ entry. entry.1)) (filter_map-append (keyed_entry slots) keys more) ∙ map-append (λ entry. entry.1) (entries_of slots keys) (entries_of slots more)
-
--- those of one key more, behind others
-pub lent_more : (slots : List (Option Tagged)) (keys : List Key) (i : ℕ) (d : Key) (olds before now : List Tagged) → i < length keys → now ≡ before ++ pairs_of slots (get_or keys i d ∷ []) → before ≡ olds ++ pairs_of slots (take i keys)
-    → now ≡ olds ++ pairs_of slots (take (i + 1) keys)
-lent_more slots keys i d olds before now l n b =
-    n ∙ ap (λ xs. xs ++ pairs_of slots (get_or keys i d ∷ [])) b ∙ append_assoc olds (pairs_of slots (take i keys)) (pairs_of slots (get_or keys i d ∷ []))
-    ∙ ap (λ xs. olds ++ xs) (sym (pairs_append slots (take i keys) (get_or keys i d ∷ [])) ∙ ap (pairs_of slots) (sym (take_more keys i d l)))
-
--- of keys where they stand
-pub lent_found_more : {K : Type 0} (key : K → Key) (slots : List (Option Tagged)) (keys : List K) (i : ℕ) (d : K) (before now : List Tagged) → i < length keys → now ≡ before ++ pairs_of slots (key (get_or keys i d) ∷ []) → before ≡ pairs_of slots (map key (take i keys))
-    → now ≡ pairs_of slots (map key (take (i + 1) keys))
-lent_found_more key slots keys i d before now l n b =
-    n ∙ ap (λ xs. xs ++ pairs_of slots (key (get_or keys i d) ∷ [])) b ∙ sym (pairs_append slots (map key (take i keys)) (key (get_or keys i d) ∷ []))
-    ∙ ap (pairs_of slots) (sym (map-append key (take i keys) (get_or keys i d ∷ [])) ∙ ap (map key) (sym (take_more keys i d l)))
+-- those of one slot more, behind others
+pub lent_more : {K : Type 0} (slot : K → ℕ) (slots : List (Option Tagged)) (keys : List K) (i : ℕ) (d : K) (olds before now : List Tagged) → i < length keys → now ≡ before ++ slot_pairs slots (slot (get_or keys i d) ∷ [])
+    → before ≡ olds ++ slot_pairs slots (map slot (take i keys)) → now ≡ olds ++ slot_pairs slots (map slot (take (i + 1) keys))
+lent_more slot slots keys i d olds before now l n b =
+    let last = slot (get_or keys i d) ∷ [] in
+    n ∙ ap (λ xs. xs ++ slot_pairs slots last) b ∙ append_assoc olds (slot_pairs slots (map slot (take i keys))) (slot_pairs slots last)
+    ∙ ap (λ xs. olds ++ xs) (sym (slots_append slots (map slot (take i keys)) last) ∙ ap (slot_pairs slots) (sym (map-append slot (take i keys) (get_or keys i d ∷ [])) ∙ ap (map slot) (sym (take_more keys i d l))))
 
 -- of one chunk more
-pub lent_chunk_more : (slots : List (Option Tagged)) (chunks : List (List Key)) (i : ℕ) (chunk keys : List Key) (before now : List Tagged) → i < length chunks → chunk ≡ get_or chunks i chunk → keys ≡ chunk → now ≡ before ++ pairs_of slots keys
-    → before ≡ pairs_of slots (joined_chunks (take i chunks)) → now ≡ pairs_of slots (joined_chunks (take (i + 1) chunks))
+pub lent_chunk_more : (slots : List (Option Tagged)) (chunks : List (List RankedKey)) (i : ℕ) (chunk keys : List RankedKey) (before now : List Tagged) → i < length chunks → chunk ≡ get_or chunks i chunk → keys ≡ chunk
+    → now ≡ before ++ slot_pairs slots (map (λ key. key.slot) keys) → before ≡ slot_pairs slots (map (λ key. key.slot) (joined_chunks (take i chunks)))
+    → now ≡ slot_pairs slots (map (λ key. key.slot) (joined_chunks (take (i + 1) chunks)))
 lent_chunk_more slots chunks i chunk keys before now l e k n b =
-    n ∙ ap (λ xs. xs ++ pairs_of slots keys) b ∙ sym (pairs_append slots (joined_chunks (take i chunks)) keys)
-    ∙ ap (pairs_of slots) (ap (λ xs. joined_chunks (take i chunks) ++ xs) k ∙ sym (joined_more chunks i chunk l e))
+    n ∙ ap (λ xs. xs ++ slot_pairs slots (map (λ key. key.slot) keys)) b ∙ sym (slots_append slots (map (λ key. key.slot) (joined_chunks (take i chunks))) (map (λ key. key.slot) keys))
+    ∙ ap (slot_pairs slots)
+    (sym (map-append (λ key. key.slot) (joined_chunks (take i chunks)) keys) ∙ ap (map (λ key. key.slot)) (ap (λ xs. joined_chunks (take i chunks) ++ xs) k ∙ sym (joined_more chunks i chunk l e)))
 
 -- ---- an order shows the pairs
 
@@ -83,18 +79,42 @@ of_one Equal low high = refl
 of_one Greater low high = refl
 
 -- between the bounds of a path's ticks are these
-within_tells : (path first last : ℕ) (key : Key) → is_between (is_before_front Dot (path ∷ first ∷ [])) (is_up_to_front Dot (path ∷ last ∷ [])) key ≡ is_of_ticks path first last (key_numbers key)
+within_tells : (path first last : ℕ) (key : RankedKey) → is_between (is_before_front (path ∷ first ∷ [])) (is_up_to_front (path ∷ last ∷ [])) key ≡ is_of_ticks path first last (numbers_in Dot key)
 within_tells path first last key =
-    of_one (nat_cmp key.path path) (ordering_then (nat_cmp key.tick first) Equal) (ordering_then (nat_cmp key.tick last) Equal)
-    ∙ ap (λ b. b && (not (is_lt (ordering_then (nat_cmp key.tick first) Equal)) && is_le (ordering_then (nat_cmp key.tick last) Equal))) (same_number key.path path)
-    ∙ ap (λ b. nat_eq key.path path && (b && is_le (ordering_then (nat_cmp key.tick last) Equal))) (not_before key.tick first)
-    ∙ ap (λ b. nat_eq key.path path && (nat_le first key.tick && b)) (not_behind key.tick last)
+    of_one (nat_cmp key.first path) (ordering_then (nat_cmp key.second first) Equal) (ordering_then (nat_cmp key.second last) Equal)
+    ∙ ap (λ b. b && (not (is_lt (ordering_then (nat_cmp key.second first) Equal)) && is_le (ordering_then (nat_cmp key.second last) Equal))) (same_number key.first path)
+    ∙ ap (λ b. nat_eq key.first path && (b && is_le (ordering_then (nat_cmp key.second last) Equal))) (not_before key.second first)
+    ∙ ap (λ b. nat_eq key.first path && (nat_le first key.second && b)) (not_behind key.second last)
 
-pub within_pairs : (slots shown : List (Option Tagged)) (dots keys : List Key) (pairs : List (Numbers × Tagged)) (path first last : ℕ) → shown ≡ slots → entries_of slots dots ≡ pairs
-    → keys ≡ filter (is_between (is_before_front Dot (path ∷ first ∷ [])) (is_up_to_front Dot (path ∷ last ∷ []))) dots → pairs_of shown keys ≡ map (λ entry. entry.1) (filter (λ entry. is_of_ticks path first last entry.0) pairs)
+map_filter : {X Y : Type 0} (f : X → Y) (p : Y → Bool) (xs : List X) → map f (filter (λ x. p (f x)) xs) ≡ filter p (map f xs)
+map_filter f p [] = refl
+map_filter f p (x ∷ xs) = elim (cases_Bool (p (f x))) [
+  | inl t ↦ rw t (ap (λ ys. f x ∷ ys) (map_filter f p xs))
+  | inr n ↦ rw n (map_filter f p xs)
+]
+
+pub within_pairs : (slots shown : List (Option Tagged)) (dots keys : List RankedKey) (pairs : List (Numbers × Tagged)) (path first last : ℕ) → shown ≡ slots → entries_of slots (keys_by Dot dots) ≡ pairs
+    → keys ≡ filter (is_between (is_before_front (path ∷ first ∷ [])) (is_up_to_front (path ∷ last ∷ []))) dots
+    → slot_pairs shown (map (λ key. key.slot) keys) ≡ map (λ entry. entry.1) (filter (λ entry. is_of_ticks path first last entry.0) pairs)
 within_pairs slots shown dots keys pairs path first last e v k =
-    ap (λ xs. pairs_of xs keys) e ∙ ap (pairs_of slots) (k ∙ ap (λ (p : Key → Bool). filter p dots) (λ i key. within_tells path first last key i))
-    ∙ ap (map (λ entry. entry.1)) (entries_filter slots (is_of_ticks path first last) dots ∙ ap (filter (λ entry. is_of_ticks path first last entry.0)) v)
+    ap (λ xs. slot_pairs xs (map (λ key. key.slot) keys)) e ∙ sym (slots_pairs Dot slots keys)
+    ∙ ap (λ ks. map (λ entry. entry.1) (entries_of slots (keys_by Dot ks))) (k ∙ ap (λ (p : RankedKey → Bool). filter p dots) (λ i key. within_tells path first last key i))
+    ∙ ap (λ ks. map (λ entry. entry.1) (entries_of slots ks)) (map_filter (key_by Dot) (λ key. is_of_ticks path first last (key_numbers key)) dots)
+    ∙ ap (map (λ entry. entry.1)) (entries_filter slots (is_of_ticks path first last) (keys_by Dot dots) ∙ ap (filter (λ entry. is_of_ticks path first last entry.0)) v)
+
+-- all pairs, by dot
+pub lent_all : (slots shown : List (Option Tagged)) (elements joined : List RankedKey) (pairs : List (Numbers × Tagged)) → shown ≡ slots → joined ≡ elements → entries_of slots (keys_by Dot elements) ≡ pairs
+    → slot_pairs shown (map (λ key. key.slot) joined) ≡ map (λ entry. entry.1) pairs
+lent_all slots shown elements joined pairs e j v =
+    (λ i. slot_pairs (e i) (map (λ key. key.slot) (j i))) ∙ sym (slots_pairs Dot slots elements) ∙ ap (map (λ entry. entry.1)) v
+
+-- the pairs of an order's piece
+pub lent_piece : (shape : Shape) (slots shown : List (Option Tagged)) (elements : List RankedKey) (keys : List Key) (lent : List RankedKey) (from count : ℕ) → lent ≡ take count (drop from elements) → keys_by shape elements ≡ keys → slots ≡ shown
+    → slot_pairs slots (map (λ key. key.slot) lent) ≡ map (λ entry. entry.1) (entries_of shown (take count (drop from keys)))
+lent_piece shape slots shown elements keys lent from count e k q =
+    sym (slots_pairs shape slots lent)
+    ∙ ap (λ ks. map (λ entry. entry.1) (entries_of slots ks)) (ap (keys_by shape) e ∙ keys_piece shape elements from count ∙ ap (λ ks. take count (drop from ks)) k)
+    ∙ ap (λ (xs : List (Option Tagged)). map (λ entry. entry.1) (entries_of xs (take count (drop from keys)))) q
 
 pub ok_weaker : {A E : Type 0} {P Q : A → Type 0} (r : Result A E) → ((a : A) → P a → Q a) → IfOk r P → IfOk r Q
 ok_weaker (Ok a) f h = f a h

@@ -13,7 +13,9 @@ pub mod Matching
 pub mod Narrowing
 pub mod Once
 pub mod Pieces
+pub mod Ranking
 pub mod Slotting
 pub mod Sorting
 pub mod Together
 pub mod Triples
+pub mod Spanning

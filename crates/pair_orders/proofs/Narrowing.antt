@@ -1,5 +1,5 @@
 -- The range of places that a search by halves has left.
-use Rattle.std.proofs.Common.{◌≡◌, ◌∙◌, ℕ, ◌+◌, ◌-◌, ◌/◌, ◌<◌, ◌≤◌, List, Bool, true, false, length, get_or, inl, inr, sym, arith}
+use Rattle.std.proofs.Common.{◌≡◌, ◌∙◌, ℕ, ◌+◌, ◌-◌, ◌/◌, ◌<◌, ◌≤◌, List, Bool, true, false, not, length, get_or, refl, inl, inr, sym, arith}
 use Rattle.std.proofs.lemmas.Bool.{cases_Bool, true≢false}
 use Rattle.std.specs.List.{AllWithin}
 use Rattle.std.specs.List.Sorted.{IsPartitionedBy}
@@ -58,10 +58,30 @@ pub one_more : {X : Type 0} (test : X → Bool) (xs : List X) (at : ℕ) → IsP
     → AllWithin (λ x. test x ≡ true) xs 0 (at + 1)
 one_more test xs at parted l t = λ k d a b. parted k at d (omega (arith, b)) l (t d)
 
--- what is at a place fails, or nothing is there, and what is in front of it passes: so it divides
-pub stops_at : {X : Type 0} (test : X → Bool) (xs : List X) (at : ℕ) → IsPartitionedBy test xs → AllWithin (λ x. test x ≡ true) xs 0 at
-    → (at < length xs → (x : X) → test (get_or xs at x) ≡ false) → AllWithin (λ x. test x ≡ false) xs at (length xs)
-stops_at test xs at parted front f = λ k d a b. elim (cases_Bool (test (get_or xs k d))) [
+pub one_before : {X : Type 0} (test : X → Bool) (xs : List X) (at : ℕ) → IsPartitionedBy test xs → 0 < at → at ≤ length xs → ((x : X) → test (get_or xs (at - 1) x) ≡ true)
+    → AllWithin (λ x. test x ≡ true) xs 0 at
+one_before test xs at parted some l t = λ k d a b. parted k (at - 1) d (omega (arith, b)) (omega (arith, some, l)) (t d)
+
+-- what is at a place fails, or nothing is there: so all from there on do
+pub stops_at : {X : Type 0} (test : X → Bool) (xs : List X) (at : ℕ) → IsPartitionedBy test xs → (at < length xs → (x : X) → test (get_or xs at x) ≡ false)
+    → AllWithin (λ x. test x ≡ false) xs at (length xs)
+stops_at test xs at parted f = λ k d a b. elim (cases_Bool (test (get_or xs k d))) [
   | inl t ↦ absurd (true≢false (sym (parted at k d a b t) ∙ f (omega (arith, a, b)) d))
   | inr g ↦ g
 ]
+
+-- a range in front of which all pass, and behind which all fail
+pub ranged : {X : Type 0} (test : X → Bool) (xs : List X) (low high steps : ℕ) → low ≤ high → high ≤ length xs → AllWithin (λ x. test x ≡ true) xs 0 low
+    → AllWithin (λ x. test x ≡ false) xs high (length xs) → IsNarrowed test xs low high steps (steps + binary_digits (length xs))
+ranged test xs low high steps l h front back = record {
+  low_is = l;
+  high_is = h;
+  front = front;
+  back = back;
+  bound = omega (arith, digits_least (high - low) (length xs) (omega (arith, h)));
+}
+
+-- what is not true is false
+pub told_false : (b : Bool) → not b ≡ true → b ≡ false
+told_false true h = absurd (true≢false (sym h))
+told_false false h = refl

@@ -2,7 +2,7 @@
 use Rattle.std.proofs.Common.{◌≡◌, ◌∙◌, ◌+◌, ◌-◌, ◌<◌, ◌≤◌, ℕ, zero, suc, List, [], ◌∷◌, ◌++◌, ◌↔◌, Bool, true, ◌&&◌, nat_eq, nat_lt, Option, IsSome, IsTrue, Result, Ok, Err, IfOk, length, map, take, drop, get_or, refl, sym, ap, subst, inl, inr, arith}
 use Rattle.std.proofs.lemmas.Bool.{and_parts, and_from, true≢false, false≢true}
 use Rattle.std.proofs.lemmas.Bool.Decides.{eqb_tells}
-use Rattle.std.proofs.lemmas.List.{take_more, map-append, take-append-drop}
+use Rattle.std.proofs.lemmas.List.{take_all, take_more, map-append, take-append-drop}
 use Rattle.std.proofs.lemmas.Simd.{map-map}
 use Rattle.std.specs.List.{filter}
 use Rattle.std.specs.declared.cmp.Ordering.{Ordering}
@@ -64,6 +64,9 @@ module _ {X Y : Type 0} (f : X → Y) where
   pub record AreImages (xs : List X) (i : ℕ) (found : List Y) : Type 0 where
     pub members : (y : Y) → Has found y ↔ Has (map f (take i xs)) y
     pub once : StandTogether f xs → StandOnce found
+
+  pub images_ended : (xs : List X) (i : ℕ) (found : List Y) → length xs ≤ i → AreImages xs i found → (y : Y) → Has found y ↔ Has (map f xs) y
+  images_ended xs i found l is y = subst (λ zs. Has found y ↔ Has (map f zs) y) (take_all i xs l) (is.members y)
 
   some_of : (xs : List X) (i : ℕ) → i < length xs → X
   some_of [] i l = absurd (omega (arith, l))

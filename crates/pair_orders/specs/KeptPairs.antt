@@ -4,10 +4,11 @@ use Rattle.std.specs.List.{slice_index_or}
 use Rattle.chunked_list.specs.Room.{ChunkedValue}
 use Rattle.mld_ops.specs.declared.tagged.Tagged.{Tagged}
 use Rattle.tree_clock.specs.Lists.{Has, IsAscending}
-use Rattle.pair_orders.specs.Keys.{shape_cmp, key_numbers, slot_at}
+use Rattle.pair_orders.specs.Keys.{ranked_cmp, keys_by, key_numbers, slot_at}
 use Rattle.pair_orders.specs.PairEntries.{StandOnce, PairsValue, entries_of}
 use Rattle.pair_orders.specs.SlotLimit.{slots_limit}
 use Rattle.pair_orders.specs.declared.keys.Key.{Key}
+use Rattle.pair_orders.specs.declared.keys.RankedKey.{RankedKey}
 use Rattle.pair_orders.specs.declared.keys.Shape.{Shape}
 use Rattle.pair_orders.specs.declared.keys.Shape.TheVariants.{Dot, Subject, Predicate, Object}
 use Rattle.pair_orders.specs.declared.lists.Lists.{Lists}
@@ -30,26 +31,26 @@ pub record PutsAt (old new : List (Option Tagged)) (slot : ℕ) (content : Optio
   pub elsewhere : (other : ℕ) → ¬ (other ≡ slot) → slot_at new other ≡ slot_at old other
 
 -- keys stand in an order, the same that stand by dot
-pub record AreKeysOf (shape : Shape) (keys dots : List Key) : Type 0 where
-  pub ascending : IsAscending (shape_cmp shape) keys
-  pub same : (key : Key) → Has keys key ↔ Has dots key
+pub record AreKeysOf (shape : Shape) (keys : List RankedKey) (dots : List Key) : Type 0 where
+  pub ascending : IsAscending ranked_cmp keys
+  pub same : (key : Key) → Has (keys_by shape keys) key ↔ Has dots key
 
 -- no keys, and no room
-abbrev pub no_list : ChunkedValue Key
+abbrev pub no_list : ChunkedValue RankedKey
 no_list = record { elements = []; room = 0 }
 
 -- one of the lists, by its place
-abbrev pub list_at : Lists → ℕ → ChunkedValue Key
+abbrev pub list_at : Lists → ℕ → ChunkedValue RankedKey
 list_at lists place = slice_index_or lists.keys place no_list
 
 -- the keys by dot
 abbrev pub dots_in : Lists → List Key
-dots_in lists = (list_at lists 0).elements
+dots_in lists = keys_by Dot (list_at lists 0).elements
 
 -- there are four lists, and each has those keys in its order
 pub record AreLists (lists : Lists) : Type 0 where
   pub four : length lists.keys ≡ 4
-  pub dot : IsAscending (shape_cmp Dot) (dots_in lists)
+  pub dot : IsAscending ranked_cmp (list_at lists 0).elements
   pub subject : AreKeysOf Subject (list_at lists 1).elements (dots_in lists)
   pub predicate : AreKeysOf Predicate (list_at lists 2).elements (dots_in lists)
   pub object : AreKeysOf Object (list_at lists 3).elements (dots_in lists)

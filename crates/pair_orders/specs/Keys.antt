@@ -1,5 +1,5 @@
 -- The keys of pairs, their orders, and the numbers that are wanted of a pair. The contracts of all files cite it.
-use Rattle.std.proofs.Common.{◌≡◌, ℕ, List, [], ◌∷◌, Bool, true, ◌&&◌, nat_eq, get_or, Option, None, Some, ap, sym}
+use Rattle.std.proofs.Common.{◌≡◌, ◌∙◌, ℕ, List, [], ◌∷◌, Bool, true, ◌&&◌, nat_eq, get_or, map, filter_map, Option, None, Some, ap, sym}
 use Rattle.std.proofs.lemmas.Cmp.{on_total, nat_list_cmp_total}
 use Rattle.std.proofs.lemmas.Map.Lookups.{CmpEqualImpliesEq, exact_bytes}
 use Rattle.std.specs.Cmp.{IsTotalOrder}
@@ -8,12 +8,15 @@ use Rattle.std.specs.List.{slice_index_or}
 use Rattle.std.specs.Ordering.{nat_cmp, ordering_then}
 use Rattle.std.specs.declared.cmp.Ordering.{Ordering}
 use Rattle.std.specs.declared.cmp.Ordering.TheVariants.{Less, Equal, Greater}
+use Rattle.chunked_list.specs.NumberLaws.{numbers_compared}
+use Rattle.chunked_list.specs.NumberTexts.{numbers_text}
 use Rattle.mld_ops.specs.declared.tagged.Tagged.{Tagged}
 use Rattle.pair_orders.specs.declared.keys.Numbers.{Numbers}
 use Rattle.pair_orders.specs.declared.keys.Places.{Places}
 use Rattle.pair_orders.specs.declared.keys.Shape.{Shape}
 use Rattle.pair_orders.specs.declared.keys.Shape.TheVariants.{Dot, Subject, Predicate, Object}
 use Rattle.pair_orders.specs.declared.keys.Key.{Key}
+use Rattle.pair_orders.specs.declared.keys.RankedKey.{RankedKey}
 
 -- ---- keys
 
@@ -29,57 +32,82 @@ key_numbers key = record { s = key.s; p = key.p; o = key.o; path = key.path; tic
 abbrev pub slot_at : List (Option Tagged) → ℕ → Option Tagged
 slot_at slots slot = slice_index_or slots slot None
 
+-- the pairs in slots, where some are
+abbrev pub slot_pairs : List (Option Tagged) → List ℕ → List Tagged
+slot_pairs slots numbers = filter_map (slot_at slots) numbers
+
 -- ---- orders
+
+-- a key as it stands in an order
+abbrev pub ranked : Shape → Key → RankedKey
+ranked Dot key = record { first = key.path; second = key.tick; third = key.s; fourth = key.p; fifth = key.o; slot = key.slot }
+ranked Subject key = record { first = key.s; second = key.p; third = key.o; fourth = key.path; fifth = key.tick; slot = key.slot }
+ranked Predicate key = record { first = key.p; second = key.o; third = key.s; fourth = key.path; fifth = key.tick; slot = key.slot }
+ranked Object key = record { first = key.o; second = key.s; third = key.p; fourth = key.path; fifth = key.tick; slot = key.slot }
+
+-- the numbers of what stands so in an order
+abbrev pub numbers_in : Shape → RankedKey → Numbers
+numbers_in Dot key = record { s = key.third; p = key.fourth; o = key.fifth; path = key.first; tick = key.second }
+numbers_in Subject key = record { s = key.first; p = key.second; o = key.third; path = key.fourth; tick = key.fifth }
+numbers_in Predicate key = record { s = key.third; p = key.first; o = key.second; path = key.fourth; tick = key.fifth }
+numbers_in Object key = record { s = key.second; p = key.third; o = key.first; path = key.fourth; tick = key.fifth }
+
+-- and its key
+abbrev pub key_by : Shape → RankedKey → Key
+key_by shape key = slotted_key (numbers_in shape key) key.slot
+
+abbrev pub keys_by : Shape → List RankedKey → List Key
+keys_by shape keys = map (key_by shape) keys
+
+-- the numbers in their row
+abbrev pub row_of : RankedKey → List ℕ
+row_of key = key.first ∷ key.second ∷ key.third ∷ key.fourth ∷ key.fifth ∷ key.slot ∷ []
 
 -- the numbers of a key, as an order has them
 abbrev pub ranks : Shape → Key → List ℕ
-ranks Dot key = key.path ∷ key.tick ∷ key.s ∷ key.p ∷ key.o ∷ key.slot ∷ []
-ranks Subject key = key.s ∷ key.p ∷ key.o ∷ key.path ∷ key.tick ∷ key.slot ∷ []
-ranks Predicate key = key.p ∷ key.o ∷ key.s ∷ key.path ∷ key.tick ∷ key.slot ∷ []
-ranks Object key = key.o ∷ key.s ∷ key.p ∷ key.path ∷ key.tick ∷ key.slot ∷ []
+ranks shape key = row_of (ranked shape key)
 
 -- keys are ordered by them, from the first
+abbrev pub ranked_cmp : RankedKey → RankedKey → Ordering
+ranked_cmp a b = slice_cmp nat_cmp (row_of a) (row_of b)
+
 abbrev pub shape_cmp : Shape → Key → Key → Ordering
-shape_cmp shape a b = slice_cmp nat_cmp (ranks shape a) (ranks shape b)
+shape_cmp shape a b = ranked_cmp (ranked shape a) (ranked shape b)
+
+-- their text is the first two numbers
+abbrev pub ranked_text : RankedKey → List ℕ
+ranked_text key = numbers_text key.first key.second
 
 -- three numbers against three, from the first
 abbrev pub three_cmp : ℕ × ℕ × ℕ → ℕ × ℕ × ℕ → Ordering
 three_cmp a b = ordering_then (nat_cmp a.0 b.0) (ordering_then (nat_cmp a.1 b.1) (nat_cmp a.2 b.2))
 
--- each order is total
+-- the order is total
+pub ranked_total : IsTotalOrder ranked_cmp
+ranked_total = on_total row_of nat_list_cmp_total
+
 pub shape_total : (shape : Shape) → IsTotalOrder (shape_cmp shape)
 shape_total shape = on_total (ranks shape) nat_list_cmp_total
 
--- the key that has such ranks
-key_from : Shape → List ℕ → Key
-key_from Dot r = record { path = get_or r 0 0; tick = get_or r 1 0; s = get_or r 2 0; p = get_or r 3 0; o = get_or r 4 0; slot = get_or r 5 0 }
-key_from Subject r = record { s = get_or r 0 0; p = get_or r 1 0; o = get_or r 2 0; path = get_or r 3 0; tick = get_or r 4 0; slot = get_or r 5 0 }
-key_from Predicate r = record { p = get_or r 0 0; o = get_or r 1 0; s = get_or r 2 0; path = get_or r 3 0; tick = get_or r 4 0; slot = get_or r 5 0 }
-key_from Object r = record { o = get_or r 0 0; s = get_or r 1 0; p = get_or r 2 0; path = get_or r 3 0; tick = get_or r 4 0; slot = get_or r 5 0 }
-
--- keys that one finds equal are the same key
-pub shape_exact : (shape : Shape) → CmpEqualImpliesEq (shape_cmp shape)
-unfolding key_from
-shape_exact Dot a b h = ap (key_from Dot) (exact_bytes (ranks Dot a) (ranks Dot b) h)
-shape_exact Subject a b h = ap (key_from Subject) (exact_bytes (ranks Subject a) (ranks Subject b) h)
-shape_exact Predicate a b h = ap (key_from Predicate) (exact_bytes (ranks Predicate a) (ranks Predicate b) h)
-shape_exact Object a b h = ap (key_from Object) (exact_bytes (ranks Object a) (ranks Object b) h)
-
--- texts that have no byte tell nothing
-pub no_key_tells : {A : Type 0} (r : Ordering) → ¬ (r ≡ Equal) → slice_cmp nat_cmp [] [] ≡ r → A
-no_key_tells r differs e = absurd (differs (sym e))
-
-pub no_key_below : {A : Type 0} → slice_cmp nat_cmp [] [] ≡ Less → A
-no_key_below e = no_key_tells Less differs e
+-- keys that it finds equal are the same key
+pub ranked_exact : CmpEqualImpliesEq ranked_cmp
+ranked_exact a b h = ap from_row (exact_bytes (row_of a) (row_of b) h)
   where
-    differs : ¬ (Less ≡ Equal)
-    differs q = cc
+    from_row : List ℕ → RankedKey
+    from_row r = record { first = get_or r 0 0; second = get_or r 1 0; third = get_or r 2 0; fourth = get_or r 3 0; fifth = get_or r 4 0; slot = get_or r 5 0 }
 
-pub no_key_above : {A : Type 0} → slice_cmp nat_cmp [] [] ≡ Greater → A
-no_key_above e = no_key_tells Greater differs e
-  where
-    differs : ¬ (Greater ≡ Equal)
-    differs q = cc
+-- what two comparisons tell, those behind them don't change
+pub told_by_two : (o p q r : Ordering) → ¬ (r ≡ Equal) → ordering_then o p ≡ r → ordering_then o (ordering_then p q) ≡ r
+told_by_two Less p q r n e = e
+told_by_two Equal Less q r n e = e
+told_by_two Equal Equal q r n e = absurd (n (sym e))
+told_by_two Equal Greater q r n e = e
+told_by_two Greater p q r n e = e
+
+-- what the texts say, the order says
+pub ranked_by_text : (a b : RankedKey) (r : Ordering) → ¬ (r ≡ Equal) → slice_cmp nat_cmp (ranked_text a) (ranked_text b) ≡ r → ranked_cmp a b ≡ r
+ranked_by_text a b r n e =
+    told_by_two (nat_cmp a.first b.first) (nat_cmp a.second b.second) _ r n (sym (numbers_compared a.first a.second b.first b.second) ∙ e)
 
 -- ---- wanted numbers
 
@@ -106,6 +134,13 @@ LeadsByTerms Object = Unit {0}
 abbrev pub wanted_then : Option ℕ → ℕ → Ordering → Ordering
 wanted_then None number next = Equal
 wanted_then (Some wanted) number next = ordering_then (nat_cmp wanted number) next
+
+-- the wanted places in the row of an order
+abbrev pub ranked_places : Shape → Places → Option ℕ × Option ℕ × Option ℕ
+ranked_places Dot wanted = (None, None, None)
+ranked_places Subject wanted = (wanted.s, wanted.p, wanted.o)
+ranked_places Predicate wanted = (wanted.p, wanted.o, wanted.s)
+ranked_places Object wanted = (wanted.o, wanted.s, wanted.p)
 
 -- the wanted places against those of a key, as far as they are wanted from the front
 abbrev pub places_cmp : Shape → Places → Key → Ordering

@@ -1,5 +1,5 @@
 -- What contracts see of an order of pairs, and the bound of a search in it. The calls that hand it out and search in it cite it.
-use Rattle.std.specs.Prelude.{◌≡◌, ℕ, List, Option, Bool, true, false, IsSome, length}
+use Rattle.std.specs.Prelude.{◌≡◌, ℕ, ◌≤◌, List, Option, Bool, true, false, IsSome, length}
 use Rattle.std.specs.Int.Digits.{digits_of}
 use Rattle.std.specs.List.{filter}
 use Rattle.std.specs.List.Sorted.{IsPartitionPoint}
@@ -42,3 +42,10 @@ is_up_to_places shape wanted key = is_ge (places_cmp shape wanted key)
 -- what passes the test stands in front of the place, and what fails it behind
 abbrev pub IsDividedAt : (Key → Bool) → List Key → ℕ → Type 0
 IsDividedAt test keys place = IsPartitionPoint (λ key. test key ≡ true) (λ key. test key ≡ false) keys place
+
+-- the keys that have the wanted places are those from one place to before another
+pub record IsSpan (shape : Shape) (wanted : Places) (keys : List Key) (from to : ℕ) : Type 0 where
+  pub order : from ≤ to
+  pub end : to ≤ length keys
+  pub before : IsDividedAt (is_before_places shape wanted) keys from
+  pub up_to : IsDividedAt (is_up_to_places shape wanted) keys to

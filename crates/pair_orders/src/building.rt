@@ -1,14 +1,15 @@
 //! Pairs that are put in all at once.
 ghost use Rattle.std.specs.Prelude.{◌≡◌, ◌+◌, ◌<◌, ◌≤◌, ◌⊎◌, ◌↔◌, ℕ, [], map, vec_len, vec_capacity, IfOk};
 ghost use Rattle.mld_ops.specs.declared.tagged.Tagged.{Tagged};
-ghost use Rattle.tree_clock.specs.Lists.{Has};
-ghost use Rattle.pair_orders.specs.Keys.{slotted_key, key_numbers};
+ghost use Rattle.tree_clock.specs.Lists.{Has, IsAscending};
+ghost use Rattle.pair_orders.specs.Keys.{slotted_key, key_numbers, ranked, ranked_cmp};
 ghost use Rattle.pair_orders.specs.PairEntries.{StandOnce, entries_of};
 ghost use Rattle.pair_orders.specs.KeptPairs.{AreSlots, AreFilled, AreLists, AreKeysOf, dots_in};
 ghost use Rattle.pair_orders.specs.declared.keys.Key.{Key};
+ghost use Rattle.pair_orders.specs.declared.keys.RankedKey.{RankedKey};
 ghost use Rattle.pair_orders.specs.declared.keys.Numbers.{Numbers};
 
-use crate::keys::{Key, Numbers, Shape};
+use crate::keys::{Key, Numbers, RankedKey, Shape};
 use crate::lists::{Lists, lists_of};
 use crate::slots::{Slots, make_slots, take_slot};
 use chunked_list::Chunked;
@@ -84,19 +85,31 @@ pub(crate) fn sort_lists(alloc: Global, keys: &[Key]) -> Result<Lists, AllocErro
 }
 
 // The keys in an order.
-fn sorted_keys(alloc: Global, keys: &[Key], shape: Shape) -> Result<Chunked<Key>, AllocError>
+fn sorted_keys(alloc: Global, keys: &[Key], shape: Shape) -> Result<Chunked<RankedKey>, AllocError>
     requires { StandOnce keys.now }
     ensures { IfOk result (λ list. AreKeysOf shape list.elements keys.now) }
 {
-    let mut sorted = keys.to_vec(alloc)?;
-    sort_keys(&mut sorted, shape);
+    let mut sorted = ranked_keys(alloc, keys, shape)?;
+    sort_keys(&mut sorted);
     Chunked::from_vec(alloc, sorted)
 }
 
-// Puts keys in an order.
-fn sort_keys(keys: &mut Vec<Key>, shape: Shape)
-    requires { StandOnce keys.old.items }
-    ensures { AreKeysOf shape keys.new.items keys.old.items }
+// The keys as they stand in an order.
+fn ranked_keys(alloc: Global, keys: &[Key], shape: Shape) -> Result<Vec<RankedKey>, AllocError>
+    ensures { IfOk result (λ list. list.items ≡ map (ranked shape) keys.now) }
 {
-    keys.sort_unstable_by(|a, b| shape.compare_keys(a, b));
+    let mut list = Vec::with_capacity(alloc, keys.len())?;
+    for key in keys {
+        list.push(key.ranked(shape))?;
+    }
+    Ok(list)
+}
+
+// Sorts keys as they stand in an order.
+fn sort_keys(keys: &mut Vec<RankedKey>)
+    requires { StandOnce keys.old.items }
+    ensures ascending { IsAscending ranked_cmp keys.new.items }
+    ensures same { (key : RankedKey) → Has keys.new.items key ↔ Has keys.old.items key }
+{
+    keys.sort_unstable_by(|a, b| a.compare(b));
 }

@@ -1,10 +1,10 @@
 //! The numbers of pairs, their keys, and the orders of these.
 ghost use Rattle.std.specs.Prelude.{◌≡◌};
 ghost use Rattle.std.specs.Ordering.{nat_cmp, ordering_then};
-ghost use Rattle.pair_orders.specs.Keys.{slotted_key, key_numbers, ranks, shape_cmp, three_cmp, LeadsIn, LeadsByTerms};
+ghost use Rattle.pair_orders.specs.Keys.{slotted_key, ranked, ranked_cmp, key_by, three_cmp, LeadsIn, LeadsByTerms};
 ghost use Rattle.pair_orders.specs.TripleEntries.{key_terms};
 
-use chunked_list::{Keyed, Order};
+use chunked_list::{Keyed, Order, numbers_hint};
 use std::cmp::Ordering;
 
 /// The numbers of a pair: of its terms and of its path, and its tick.
@@ -84,33 +84,9 @@ impl Key {
         }
     }
 
-    /// The numbers of the pair.
-    pub(crate) fn numbers(&self) -> Numbers
-        ensures { result ≡ key_numbers self.now }
-    {
-        Numbers {
-            s: self.s,
-            p: self.p,
-            o: self.o,
-            path: self.path,
-            tick: self.tick,
-        }
-    }
-
-    /// The numbers of the terms of the pair's triple.
-    pub(crate) fn terms(&self) -> TermNumbers
-        ensures { result ≡ key_terms self.now }
-    {
-        TermNumbers {
-            s: self.s,
-            p: self.p,
-            o: self.o,
-        }
-    }
-
-    /// The numbers of the key, as an order has them.
-    pub(crate) fn ranks(&self, shape: Shape) -> [u32; 6]
-        ensures { result ≡ ranks shape self.now }
+    /// The key as it stands in an order.
+    pub(crate) fn ranked(&self, shape: Shape) -> RankedKey
+        ensures { result ≡ ranked shape self.now }
     {
         let Key {
             s,
@@ -121,26 +97,85 @@ impl Key {
             slot,
         } = *self;
         match shape {
-            Shape::Dot => [path, tick, s, p, o, slot],
-            Shape::Subject => [s, p, o, path, tick, slot],
-            Shape::Predicate => [p, o, s, path, tick, slot],
-            Shape::Object => [o, s, p, path, tick, slot],
+            Shape::Dot => in_row((path, tick, s), (p, o, slot)),
+            Shape::Subject => in_row((s, p, o), (path, tick, slot)),
+            Shape::Predicate => in_row((p, o, s), (path, tick, slot)),
+            Shape::Object => in_row((o, s, p), (path, tick, slot)),
         }
     }
 }
 
-// The orders go by no text.
-impl Keyed for Key {
-    ghost use Rattle.std.specs.Prelude.{[]};
+/// A key as it stands in an order: its numbers from the one that leads to the last, which is the slot.
+#[derive(Clone, Copy)]
+pub struct RankedKey {
+    pub(crate) first: u32,
+    pub(crate) second: u32,
+    pub(crate) third: u32,
+    pub(crate) fourth: u32,
+    pub(crate) fifth: u32,
+    pub(crate) slot: u32,
+}
 
-    ghost key = { λ _. [] };
+// The key with its numbers in this row.
+fn in_row(front: (u32, u32, u32), back: (u32, u32, u32)) -> RankedKey
+    ensures { result ≡ record { first = front.0; second = front.1; third = front.2; fourth = back.0; fifth = back.1; slot = back.2 } }
+{
+    RankedKey {
+        first: front.0,
+        second: front.1,
+        third: front.2,
+        fourth: back.0,
+        fifth: back.1,
+        slot: back.2,
+    }
+}
 
-    fn shared(&self, _other: &Key) -> usize {
+impl RankedKey {
+    /// The numbers of the terms of the pair's triple.
+    pub(crate) fn terms(&self, shape: Shape) -> TermNumbers
+        ensures { result ≡ key_terms (key_by shape self.now) }
+    {
+        let (s, p, o) = (self.first, self.second, self.third);
+        match shape {
+            Shape::Dot => TermNumbers {
+                s: self.third,
+                p: self.fourth,
+                o: self.fifth,
+            },
+            Shape::Subject => TermNumbers { s, p, o },
+            Shape::Predicate => TermNumbers { s: o, p: s, o: p },
+            Shape::Object => TermNumbers { s: p, p: o, o: s },
+        }
+    }
+
+    /// How the key compares with another of the same order.
+    pub(crate) fn compare(&self, other: &RankedKey) -> Ordering
+        ensures { result ≡ ranked_cmp self.now other.now }
+    {
+        then_three(
+            compare_three(
+                (self.first, self.second, self.third),
+                (other.first, other.second, other.third),
+            ),
+            (self.fourth, self.fifth, self.slot),
+            (other.fourth, other.fifth, other.slot),
+        )
+    }
+}
+
+// Its text is its first two numbers, so that a search by halves mostly compares hints.
+impl Keyed for RankedKey {
+    ghost use Rattle.pair_orders.specs.Keys.{ranked_text};
+
+    ghost key = { ranked_text };
+
+    // None, so that all hints are whole.
+    fn shared(&self, _other: &RankedKey) -> usize {
         0
     }
 
-    fn hint(&self, _place: usize) -> u64 {
-        0
+    fn hint(&self, place: usize) -> u64 {
+        numbers_hint(self.first, self.second, place)
     }
 }
 
@@ -155,36 +190,6 @@ pub enum Shape {
     Predicate,
     /// The object, the subject, the predicate, the path, the tick.
     Object,
-}
-
-impl Shape {
-    /// How two keys compare.
-    pub(crate) fn compare_keys(self, a: &Key, b: &Key) -> Ordering
-        ensures { result ≡ shape_cmp self a.now b.now }
-    {
-        match self {
-            Shape::Dot => then_three(
-                compare_three((a.path, a.tick, a.s), (b.path, b.tick, b.s)),
-                (a.p, a.o, a.slot),
-                (b.p, b.o, b.slot),
-            ),
-            Shape::Subject => then_three(
-                compare_three((a.s, a.p, a.o), (b.s, b.p, b.o)),
-                (a.path, a.tick, a.slot),
-                (b.path, b.tick, b.slot),
-            ),
-            Shape::Predicate => then_three(
-                compare_three((a.p, a.o, a.s), (b.p, b.o, b.s)),
-                (a.path, a.tick, a.slot),
-                (b.path, b.tick, b.slot),
-            ),
-            Shape::Object => then_three(
-                compare_three((a.o, a.s, a.p), (b.o, b.s, b.p)),
-                (a.path, a.tick, a.slot),
-                (b.path, b.tick, b.slot),
-            ),
-        }
-    }
 }
 
 // How three numbers compare with three, up to the first that differ.
@@ -216,18 +221,21 @@ fn then_three(front: Ordering, a: (u32, u32, u32), b: (u32, u32, u32)) -> Orderi
     }
 }
 
-impl Order<Key> for Shape {
-    ghost use Rattle.pair_orders.specs.Keys.{shape_cmp, shape_total, shape_exact, no_key_tells};
+/// The order of keys as they stand in one: by their numbers, from the first.
+pub(crate) struct ByRanks;
 
-    ghost order = { shape_cmp };
+impl Order<RankedKey> for ByRanks {
+    ghost use Rattle.pair_orders.specs.Keys.{ranked_cmp, ranked_total, ranked_exact, ranked_by_text};
 
-    ghost total = { shape_total };
+    ghost order = { λ _. ranked_cmp };
 
-    ghost exact = { shape_exact };
+    ghost total = { λ _. ranked_total };
 
-    ghost by_key = { λ _ a b r differs e. no_key_tells r differs e };
+    ghost exact = { λ _. ranked_exact };
 
-    fn compare(&self, a: &Key, b: &Key) -> Ordering {
-        self.compare_keys(a, b)
+    ghost by_key = { λ _. ranked_by_text };
+
+    fn compare(&self, a: &RankedKey, b: &RankedKey) -> Ordering {
+        a.compare(b)
     }
 }

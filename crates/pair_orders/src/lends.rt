@@ -1,9 +1,9 @@
 //! Pairs that are lent where they stand.
 ghost use Rattle.std.specs.Prelude.{◌≡◌, ◌∷◌, ◌++◌, [], map, IfOk, OnOk};
 ghost use Rattle.chunked_list.specs.Joined.{joined_chunks};
-ghost use Rattle.pair_orders.specs.PairEntries.{entries_of};
+ghost use Rattle.pair_orders.specs.Keys.{slot_pairs};
 
-use crate::keys::Key;
+use crate::keys::RankedKey;
 use crate::slots::pair_in;
 use chunked_list::Chunk;
 use mld_ops::Tagged;
@@ -13,14 +13,13 @@ use std::alloc::{AllocError, Global};
 pub(crate) fn lend_found<'a>(
     alloc: Global,
     slots: &'a [Option<Tagged>],
-    keys: &[&Key],
+    keys: &[&RankedKey],
 ) -> Result<Vec<&'a Tagged>, AllocError>
-    ensures { IfOk result (λ list. map (λ x. x.now) list.items
-        ≡ map (λ entry. entry.1) (entries_of slots.now (map (λ x. x.now) keys.now))) }
+    ensures { IfOk result (λ list. map (λ x. x.now) list.items ≡ slot_pairs slots.now (map (λ key. key.now.slot) keys.now)) }
 {
     let mut list = Vec::with_capacity(alloc, keys.len())?;
     for key in keys {
-        add_pair(&mut list, slots, key)?;
+        add_pair(&mut list, slots, key.slot)?;
     }
     Ok(list)
 }
@@ -29,11 +28,11 @@ pub(crate) fn lend_found<'a>(
 pub(crate) fn lend_chunks<'a>(
     alloc: Global,
     slots: &'a [Option<Tagged>],
-    chunks: &[Chunk<Key>],
+    chunks: &[Chunk<RankedKey>],
     count: usize,
 ) -> Result<Vec<&'a Tagged>, AllocError>
     ensures { IfOk result (λ list. map (λ x. x.now) list.items
-        ≡ map (λ entry. entry.1) (entries_of slots.now (joined_chunks chunks.now))) }
+        ≡ slot_pairs slots.now (map (λ key. key.slot) (joined_chunks chunks.now))) }
 {
     let mut list = Vec::with_capacity(alloc, count)?;
     for chunk in chunks {
@@ -46,27 +45,27 @@ pub(crate) fn lend_chunks<'a>(
 fn add_pairs<'a>(
     list: &mut Vec<&'a Tagged>,
     slots: &'a [Option<Tagged>],
-    keys: &[Key],
+    keys: &[RankedKey],
 ) -> Result<(), AllocError>
     ensures { OnOk result (map (λ x. x.now) list.new.items
-        ≡ map (λ x. x.now) list.old.items ++ map (λ entry. entry.1) (entries_of slots.now keys.now)) }
+        ≡ map (λ x. x.now) list.old.items ++ slot_pairs slots.now (map (λ key. key.slot) keys.now)) }
 {
     for key in keys {
-        add_pair(list, slots, key)?;
+        add_pair(list, slots, key.slot)?;
     }
     Ok(())
 }
 
-/// Adds the pair of a key.
+/// Adds the pair in a slot.
 pub(crate) fn add_pair<'a>(
     list: &mut Vec<&'a Tagged>,
     slots: &'a [Option<Tagged>],
-    key: &Key,
+    slot: u32,
 ) -> Result<(), AllocError>
     ensures { OnOk result (map (λ x. x.now) list.new.items
-        ≡ map (λ x. x.now) list.old.items ++ map (λ entry. entry.1) (entries_of slots.now (key.now ∷ []))) }
+        ≡ map (λ x. x.now) list.old.items ++ slot_pairs slots.now (slot ∷ [])) }
 {
-    if let Some(pair) = pair_in(slots, key.slot) {
+    if let Some(pair) = pair_in(slots, slot) {
         list.push(pair)?;
     }
     Ok(())

@@ -1,18 +1,18 @@
 //! Keys in four orders.
 ghost use Rattle.std.specs.Prelude.{◌≡◌, ◌+◌, ◌<◌, ◌≤◌, ◌⊎◌, ◌↔◌, ◌∷◌, [], OnOk};
 ghost use Rattle.tree_clock.specs.Lists.{Has, IsAscending};
-ghost use Rattle.pair_orders.specs.Keys.{shape_cmp};
+ghost use Rattle.pair_orders.specs.Keys.{ranked_cmp, keys_by};
 ghost use Rattle.pair_orders.specs.KeptPairs.{AreLists, AreKeysOf, lists_room, list_at, dots_in};
 ghost use Rattle.pair_orders.specs.declared.keys.Key.{Key};
 
-use crate::keys::{Key, Shape};
+use crate::keys::{ByRanks, Key, RankedKey, Shape};
 use chunked_list::Chunked;
 use std::alloc::{AllocError, Global};
 
 /// The same keys in each order: by dot, by subject, by predicate, by object.
 #[derive(Drop)]
 pub(crate) struct Lists {
-    pub(crate) keys: [Chunked<Key>; 4],
+    pub(crate) keys: [Chunked<RankedKey>; 4],
 }
 
 /// No keys.
@@ -32,10 +32,10 @@ pub(crate) fn no_lists(alloc: Global) -> Lists
 
 /// Lists of the same keys.
 pub(crate) fn lists_of(
-    dot: Chunked<Key>,
-    subject: Chunked<Key>,
-    predicate: Chunked<Key>,
-    object: Chunked<Key>,
+    dot: Chunked<RankedKey>,
+    subject: Chunked<RankedKey>,
+    predicate: Chunked<RankedKey>,
+    object: Chunked<RankedKey>,
 ) -> Lists
     ensures { result.keys ≡ dot ∷ subject ∷ predicate ∷ object ∷ [] }
 {
@@ -45,7 +45,7 @@ pub(crate) fn lists_of(
 }
 
 /// The keys by dot.
-pub(crate) fn by_dot(lists: &Lists) -> &Chunked<Key>
+pub(crate) fn by_dot(lists: &Lists) -> &Chunked<RankedKey>
     requires { AreLists lists.now }
     ensures { result.now ≡ list_at lists.now 0 }
 {
@@ -53,7 +53,7 @@ pub(crate) fn by_dot(lists: &Lists) -> &Chunked<Key>
 }
 
 /// The keys in an order.
-pub(crate) fn keys_in(lists: &Lists, shape: Shape) -> &Chunked<Key>
+pub(crate) fn keys_in(lists: &Lists, shape: Shape) -> &Chunked<RankedKey>
     requires { AreLists lists.now }
     ensures { AreKeysOf shape result.now.elements (dots_in lists.now) }
 {
@@ -88,10 +88,22 @@ pub(crate) fn put_key(lists: &mut Lists, key: Key)
     ensures members { (other : Key) → Has (dots_in lists.new) other ↔ (Has (dots_in lists.old) other ⊎ (other ≡ key)) }
     ensures room { lists_room lists.old ≤ lists_room lists.new + 1 }
 {
-    lists.keys[0].insert(&Shape::Dot, key);
-    lists.keys[1].insert(&Shape::Subject, key);
-    lists.keys[2].insert(&Shape::Predicate, key);
-    lists.keys[3].insert(&Shape::Object, key);
+    put_ranked(&mut lists.keys[0], Shape::Dot, &key);
+    put_ranked(&mut lists.keys[1], Shape::Subject, &key);
+    put_ranked(&mut lists.keys[2], Shape::Predicate, &key);
+    put_ranked(&mut lists.keys[3], Shape::Object, &key);
+}
+
+// Puts a key into the list of an order. It takes no memory.
+fn put_ranked(list: &mut Chunked<RankedKey>, shape: Shape, key: &Key)
+    requires room { 0 < list.old.room }
+    requires order { IsAscending ranked_cmp list.old.elements }
+    ensures ascending { IsAscending ranked_cmp list.new.elements }
+    ensures members { (other : Key) → Has (keys_by shape list.new.elements) other
+        ↔ (Has (keys_by shape list.old.elements) other ⊎ (other ≡ key.now)) }
+    ensures room { list.old.room ≤ list.new.room + 1 }
+{
+    list.insert(&ByRanks, key.ranked(shape));
 }
 
 /// Takes a key out of each order. It takes no memory.
@@ -101,8 +113,19 @@ pub(crate) fn take_key(lists: &mut Lists, key: &Key)
     ensures members { (other : Key) → Has (dots_in lists.new) other ↔ (Has (dots_in lists.old) other × ¬ (other ≡ key.now)) }
     ensures room { lists_room lists.old ≤ lists_room lists.new }
 {
-    lists.keys[0].remove(&Shape::Dot, key);
-    lists.keys[1].remove(&Shape::Subject, key);
-    lists.keys[2].remove(&Shape::Predicate, key);
-    lists.keys[3].remove(&Shape::Object, key);
+    take_ranked(&mut lists.keys[0], Shape::Dot, key);
+    take_ranked(&mut lists.keys[1], Shape::Subject, key);
+    take_ranked(&mut lists.keys[2], Shape::Predicate, key);
+    take_ranked(&mut lists.keys[3], Shape::Object, key);
+}
+
+// Takes a key out of the list of an order. It takes no memory.
+fn take_ranked(list: &mut Chunked<RankedKey>, shape: Shape, key: &Key)
+    requires { IsAscending ranked_cmp list.old.elements }
+    ensures ascending { IsAscending ranked_cmp list.new.elements }
+    ensures members { (other : Key) → Has (keys_by shape list.new.elements) other
+        ↔ (Has (keys_by shape list.old.elements) other × ¬ (other ≡ key.now)) }
+    ensures room { list.old.room ≤ list.new.room }
+{
+    list.remove(&ByRanks, &key.ranked(shape));
 }

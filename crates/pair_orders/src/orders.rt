@@ -1,14 +1,16 @@
 //! An order of pairs.
 ghost use Rattle.std.specs.Prelude.{◌≡◌, ◌<◌, ◌≤◌, ◌+◌, ◌-◌, ◌↔◌, map, length, take, drop, IfOk, OnOk, IsTrue};
 ghost use Rattle.std.specs.List.{slice_index_or};
-ghost use Rattle.pair_orders.specs.Keys.{wanted_then, places_cmp, LeadsByTerms};
+ghost use Rattle.pair_orders.specs.Keys.{key_by, keys_by, slot_pairs, ranked_places, wanted_then, places_cmp, LeadsByTerms};
 ghost use Rattle.pair_orders.specs.Orders.{IsOrder};
 ghost use Rattle.pair_orders.specs.PairEntries.{StandOnce, StandTogether, entries_of};
 ghost use Rattle.pair_orders.specs.TripleEntries.{IsRepeated, key_terms};
+ghost use Rattle.pair_orders.specs.declared.keys.Key.{Key};
 ghost use Rattle.pair_orders.specs.declared.keys.TermNumbers.{TermNumbers};
 ghost use Rattle.tree_clock.specs.Lists.{Has};
 
-use crate::keys::{Key, Places, Shape, TermNumbers};
+use crate::fronts::BeforeFront;
+use crate::keys::{Places, RankedKey, Shape, TermNumbers};
 use crate::lends::add_pair;
 use crate::steps::Steps;
 use chunked_list::Chunked;
@@ -22,28 +24,29 @@ use std::sync::ledger::Ledger;
 #[derive(Drop)]
 pub struct KeyOrder<'a> {
     shape: Shape,
-    keys: &'a Chunked<Key>,
+    keys: &'a Chunked<RankedKey>,
     slots: &'a [Option<Tagged>],
 }
 
 impl<'a> Model for KeyOrder<'a> {
+    ghost use Rattle.pair_orders.specs.Keys.{keys_by};
     ghost use Rattle.pair_orders.specs.Orders.{OrderValue, IsOrder};
 
     ghost Value = { OrderValue };
 
-    ghost view = { λ order. record { shape = order.shape; keys = order.keys.now.elements; slots = order.slots.now } };
+    ghost view = { λ order. record { shape = order.shape; keys = keys_by order.shape order.keys.now.elements; slots = order.slots.now } };
 
-    ghost invariant = { λ order. IsOrder order.shape order.keys.now.elements order.slots.now };
+    ghost invariant = { λ order. IsOrder order.shape (keys_by order.shape order.keys.now.elements) order.slots.now };
 }
 
 /// The order that keys have, of which the pairs stand in slots.
 pub(crate) fn order_of<'a>(
     shape: Shape,
-    keys: &'a Chunked<Key>,
+    keys: &'a Chunked<RankedKey>,
     slots: &'a [Option<Tagged>],
 ) -> KeyOrder<'a>
-    requires { IsOrder shape keys.now.elements slots.now }
-    ensures { result ≡ record { shape = shape; keys = keys.now.elements; slots = slots.now } }
+    requires { IsOrder shape (keys_by shape keys.now.elements) slots.now }
+    ensures { result ≡ record { shape = shape; keys = keys_by shape keys.now.elements; slots = slots.now } }
 {
     KeyOrder { shape, keys, slots }
 }
@@ -55,6 +58,15 @@ impl<'a> KeyOrder<'a> {
         ensures order { IsOrder self.now.shape self.now.keys self.now.slots }
     {
         self.keys.len()
+    }
+
+    /// Where the first key that has the wanted places would stand. It shows no key, and is trusted for nothing: it goes by hints, and
+    /// looks at keys themselves where these are alike.
+    pub fn guess(&self, wanted: &Places) -> usize
+        ensures { result ≤ length self.now.keys }
+    {
+        let front = least_front(self.shape, wanted);
+        self.keys.count_before(&BeforeFront { front: &front })
     }
 
     /// How wanted places compare with the key at a place. It is one step.
@@ -104,34 +116,49 @@ impl<'a> KeyOrder<'a> {
         ensures most { steps.new ≤ steps.old + (to - from) }
     {
         let lent = self.keys.from_to(alloc, from, to)?;
-        terms_of(alloc, &lent, steps)
+        terms_of(alloc, self.shape, &lent, steps)
+    }
+}
+
+// The wanted places in the row of an order; none by dot.
+fn places_in(shape: Shape, wanted: &Places) -> (Option<u64>, Option<u64>, Option<u64>)
+    ensures { result ≡ ranked_places shape wanted.now }
+{
+    let Places { s, p, o } = *wanted;
+    match shape {
+        Shape::Dot => (None, None, None),
+        Shape::Subject => (s, p, o),
+        Shape::Predicate => (p, o, s),
+        Shape::Object => (o, s, p),
+    }
+}
+
+// The least numbers with which a key that has the wanted places may begin.
+fn least_front(shape: Shape, wanted: &Places) -> [u32; 3] {
+    let places = places_in(shape, wanted);
+    [
+        least_number(places.0),
+        least_number(places.1),
+        least_number(places.2),
+    ]
+}
+
+// The wanted number, as far as a key has room for it; 0 where none is wanted.
+fn least_number(wanted: Option<u64>) -> u32 {
+    match wanted {
+        Some(number) => number.min(u64::from(u32::MAX)) as u32,
+        None => 0,
     }
 }
 
 // How wanted places compare with a key, as far as they are wanted from the front.
-fn compare_places(shape: Shape, wanted: &Places, key: &Key) -> Ordering
-    ensures { result ≡ places_cmp shape wanted.now key.now }
+fn compare_places(shape: Shape, wanted: &Places, key: &RankedKey) -> Ordering
+    ensures { result ≡ places_cmp shape wanted.now (key_by shape key.now) }
 {
-    let Places { s, p, o } = *wanted;
-    let end = Ordering::Equal;
-    match shape {
-        Shape::Dot => end,
-        Shape::Subject => compare_wanted(
-            s,
-            key.s,
-            compare_wanted(p, key.p, compare_wanted(o, key.o, end)),
-        ),
-        Shape::Predicate => compare_wanted(
-            p,
-            key.p,
-            compare_wanted(o, key.o, compare_wanted(s, key.s, end)),
-        ),
-        Shape::Object => compare_wanted(
-            o,
-            key.o,
-            compare_wanted(s, key.s, compare_wanted(p, key.p, end)),
-        ),
-    }
+    let places = places_in(shape, wanted);
+    let third = compare_wanted(places.2, key.third, Ordering::Equal);
+    let second = compare_wanted(places.1, key.second, third);
+    compare_wanted(places.0, key.first, second)
 }
 
 // How a wanted number compares with that of a key, and then the next ones do. Where none is wanted all are alike.
@@ -148,18 +175,17 @@ fn compare_wanted(wanted: Option<u64>, number: u32, next: Ordering) -> Ordering
 fn lend_pairs<'a, L: Ledger>(
     alloc: Global,
     slots: &'a [Option<Tagged>],
-    keys: &[&Key],
+    keys: &[&RankedKey],
     steps: &mut Steps<L>,
 ) -> Result<Vec<&'a Tagged>, AllocError>
-    ensures pairs { IfOk result (λ found. map (λ x. x.now) found.items
-        ≡ map (λ entry. entry.1) (entries_of slots.now (map (λ x. x.now) keys.now))) }
+    ensures pairs { IfOk result (λ found. map (λ x. x.now) found.items ≡ slot_pairs slots.now (map (λ key. key.now.slot) keys.now)) }
     ensures step { OnOk result (steps.new ≡ steps.old + length keys.now) }
     ensures most { steps.new ≤ steps.old + length keys.now }
 {
     let mut found = Vec::with_capacity(alloc, keys.len())?;
     for key in keys {
         steps.tick();
-        add_pair(&mut found, slots, key)?;
+        add_pair(&mut found, slots, key.slot)?;
     }
     Ok(found)
 }
@@ -167,30 +193,31 @@ fn lend_pairs<'a, L: Ledger>(
 // The numbers of the terms of keys, without those that are the same as of the key in front. Each key is a step.
 fn terms_of<L: Ledger>(
     alloc: Global,
-    keys: &[&Key],
+    shape: Shape,
+    keys: &[&RankedKey],
     steps: &mut Steps<L>,
 ) -> Result<Vec<TermNumbers>, AllocError>
     ensures members { IfOk result (λ found. (terms : TermNumbers) → Has found.items terms
-        ↔ Has (map (λ key. key_terms key.now) keys.now) terms) }
-    ensures once { IfOk result (λ found. StandTogether (λ key. key_terms key.now) keys.now → StandOnce found.items) }
+        ↔ Has (map (λ key. key_terms (key_by shape key.now)) keys.now) terms) }
+    ensures once { IfOk result (λ found. StandTogether (λ key. key_terms (key_by shape key.now)) keys.now → StandOnce found.items) }
     ensures step { OnOk result (steps.new ≡ steps.old + length keys.now) }
     ensures most { steps.new ≤ steps.old + length keys.now }
 {
     let mut found = Vec::with_capacity(alloc, keys.len())?;
     for i in 0..keys.len() {
         steps.tick();
-        if is_repeated(keys, i) {
+        if is_repeated(shape, keys, i) {
             continue;
         }
-        found.push(keys[i].terms())?;
+        found.push(keys[i].terms(shape))?;
     }
     Ok(found)
 }
 
 // Whether the key at a place has the terms of the one in front of it.
-fn is_repeated(keys: &[&Key], at: usize) -> bool
+fn is_repeated(shape: Shape, keys: &[&RankedKey], at: usize) -> bool
     requires { at < length keys.now }
-    ensures { IsTrue result ↔ IsRepeated (λ key. key_terms key.now) keys.now at }
+    ensures { IsTrue result ↔ IsRepeated (λ key. key_terms (key_by shape key.now)) keys.now at }
 {
-    at > 0 && keys[at].terms() == keys[at - 1].terms()
+    at > 0 && keys[at].terms(shape) == keys[at - 1].terms(shape)
 }

@@ -12,7 +12,7 @@ ghost use Rattle.pair_orders.specs.declared.keys.Numbers.{Numbers};
 use crate::building::{fill_slots, sort_lists};
 use crate::changes::{insert_in, prepare_for, remove_in};
 use crate::finds::{find_slot, has_terms};
-use crate::fronts::{BeforeFront, UpToFront};
+use crate::fronts::{BeforeFront, BehindTwo};
 use crate::keys::{Numbers, Places, Shape, TermNumbers};
 use crate::lends::{lend_chunks, lend_found};
 use crate::lists::{Lists, by_dot, keys_in, no_lists};
@@ -131,12 +131,11 @@ impl NumberedPairs {
         ensures once { StandOnce (map (λ entry. entry.0) self.now.pairs) }
     {
         let low = BeforeFront {
-            shape: Shape::Dot,
             front: &[path, first],
         };
-        let high = UpToFront {
-            shape: Shape::Dot,
-            front: &[path, last],
+        let high = BehindTwo {
+            first: path,
+            second: last,
         };
         let keys = by_dot(&self.lists).between(alloc, &low, &high)?;
         lend_found(alloc, &self.slots.pairs, &keys)

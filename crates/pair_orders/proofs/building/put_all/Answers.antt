@@ -1,4 +1,4 @@
-use Rattle.std.proofs.Common.{◌≡◌, [], arith}
+use Rattle.std.proofs.Common.{arith}
 use Rattle.pair_orders.proofs.Filling.{filling_begun, last_apart, filling_more, filling_ended, nothing_left}
 use Rattle.pair_orders.proofs.building.put_all.Goals as goal
 

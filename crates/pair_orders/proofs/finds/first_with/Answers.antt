@@ -6,18 +6,18 @@ use Rattle.pair_orders.proofs.Fronting.{before_front, begins_so, first_is, first
 use Rattle.pair_orders.proofs.finds.first_with.Goals as goal
 
 pub first_from-requires : goal.first_from-requires
-first_from-requires c = before_front c.args.shape c.args.front.now c.args.keys.now.elements c.requires
+first_from-requires c = before_front c.args.front.now c.args.keys.now.elements c.requires
 
 pub returns-in_err-first-clause-none : goal.returns-in_err-first-clause-none
-returns-in_err-first-clause-none c = rw c.from_residual.ensures (none_tells c.args.shape c.args.front.now c.args.keys.now.elements c.in_err-first.ensures)
+returns-in_err-first-clause-none c = rw c.from_residual.ensures (none_tells c.args.front.now c.args.keys.now.elements c.in_err-first.ensures)
 
 pub returns-then-is_eq-clause-some : goal.returns-then-is_eq-clause-some
 returns-then-is_eq-clause-some c =
     let first = c.in_ok-first.first.now in
     let e = sym c.compare_front.ensures ∙ tied c.compare_front.result (sym c.if-is_eq.ensures) in
-    (first_is (is_before_front c.args.shape c.args.front.now) c.args.keys.now.elements first c.in_ok-first.ensures, begins_so c.args.shape c.args.front.now first e)
+    (first_is (is_before_front c.args.front.now) c.args.keys.now.elements first c.in_ok-first.ensures, begins_so c.args.front.now first e)
 
 pub returns-clause-none : goal.returns-clause-none
 returns-clause-none c =
     let m = c.if-is_eq.ensures in
-    first_tells c.args.shape c.args.front.now c.args.keys.now.elements c.in_ok-first.first.now c.requires c.in_ok-first.ensures (λ e. false≢true (m ∙ ap is_eq (c.compare_front.ensures ∙ e)))
+    first_tells c.args.front.now c.args.keys.now.elements c.in_ok-first.first.now c.requires c.in_ok-first.ensures (λ e. false≢true (m ∙ ap is_eq (c.compare_front.ensures ∙ e)))

@@ -4,5 +4,5 @@ use Rattle.pair_orders.proofs.lends.add_pairs.Goals as goal
 
 pub loop-key-preserved : goal.loop-key-preserved
 loop-key-preserved c =
-    lent_more c.args.slots.now c.args.keys.now c.loop-key.key-index (record { s = 0; p = 0; o = 0; path = 0; tick = 0; slot = 0 }) (map (λ x. x.now) c.args.list.now.items) (map (λ x. x.now) c.loop-key.list.items)
-    (map (λ x. x.now) c.add_pair.new.list.items) c.loop-key-test.true c.in_ok-add_pair.ensures c.loop-key.invariant
+    lent_more (λ key. key.slot) c.args.slots.now c.args.keys.now c.loop-key.key-index (record { first = 0; second = 0; third = 0; fourth = 0; fifth = 0; slot = 0 }) (map (λ x. x.now) c.args.list.now.items)
+    (map (λ x. x.now) c.loop-key.list.items) (map (λ x. x.now) c.add_pair.new.list.items) c.loop-key-test.true c.in_ok-add_pair.ensures c.loop-key.invariant

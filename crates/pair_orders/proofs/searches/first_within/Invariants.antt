@@ -1,7 +1,7 @@
 use Rattle.std.proofs.Common.{◌+◌, ◌-◌, length}
 use Rattle.pair_orders.specs.Orders.{binary_digits, is_before_places}
 use Rattle.pair_orders.proofs.Narrowing.{IsNarrowed}
-use Rattle.pair_orders.proofs.searches.first_not_before.Given as goal
+use Rattle.pair_orders.proofs.searches.first_within.Given as goal
 
 abbrev pub invariant-loop-low : goal.invariant-loop-low
 invariant-loop-low g l =
