@@ -23,10 +23,11 @@ use Rattle.pair_orders.specs.TripleEntries.{FindsTriples, term_numbers}
 use Rattle.graph_index.specs.GraphParts.{graph_parts}
 use Rattle.graph_index.specs.Matching.{HasTriple}
 use Rattle.graph_index.specs.Numbered.{term_numbered, iri_of_term, triple_at, triple_numbered, is_wanted_term, has_wanted, StandForOwn, AreAllNumbered, FindsNumbered}
-use Rattle.graph_index.specs.TermNumbers.{AreNumbersOf, HaveOwnNumbers, StandApart, term_number}
+use Rattle.graph_index.specs.TermNumbers.{AreNumbersOf, HaveOwnNumbers, StandApart}
+use Rattle.number_tables.specs.TableNumbers.{number_of_term}
 use Rattle.graph_index.specs.declared.parts.Parts.{Parts}
 use Rattle.graph_index.proofs.Finding.{as_many_by, in_view, nat_decides, numbered_in, same_tests, view_ascends}
-use Rattle.graph_index.proofs.Numbers.{placed_term, term_decides}
+use Rattle.number_tables.proofs.Numbers.{placed_term, term_decides}
 use Rattle.graph_index.proofs.Once.{once_ascending, once_permutes}
 use Rattle.graph_index.proofs.WantedPlaces.{some_injective}
 
@@ -77,7 +78,7 @@ read_at (x ∷ xs) zero d l = refl
 read_at (x ∷ xs) (suc n) d l = read_at xs n d (omega (arith, l))
 
 -- the term stands at its place
-pub at_number : (list : List Term) (term : Term) (n : ℕ) → term_number list term ≡ Some n → slice_get list n ≡ Some term
+pub at_number : (list : List Term) (term : Term) (n : ℕ) → number_of_term list term ≡ Some n → slice_get list n ≡ Some term
 at_number list term n h =
     let p = position-Some (eq_by_cmp term_cmp term) list n term h in
     read_at list n term p.0 ∙ ap (λ w. Some w) (sym ((term_decides term (get_or list n term)).0 p.1))
@@ -102,11 +103,11 @@ module _ (parts : Parts) (are : HaveOwnNumbers parts.tables parts.numbered.pairs
       some_injective n m
       (sym (placed_term parts.tables.terms n term term apart.terms_apart h itself) ∙ placed_term parts.tables.terms m term term apart.terms_apart k itself)
 
-  pub number_some : (term : Term) (number : Option ℕ) → number ≡ term_number parts.tables.terms term → IfSome number (λ n. term_numbered (graph_parts parts) n ≡ Some term)
+  pub number_some : (term : Term) (number : Option ℕ) → number ≡ number_of_term parts.tables.terms term → IfSome number (λ n. term_numbered (graph_parts parts) n ≡ Some term)
   number_some term None e = tt
   number_some term (Some n) e = at_number parts.tables.terms term n (sym e)
 
-  pub number_none : (term : Term) (number : Option ℕ) → number ≡ term_number parts.tables.terms term → IfNone number ((n : ℕ) → ¬ (term_numbered (graph_parts parts) n ≡ Some term))
+  pub number_none : (term : Term) (number : Option ℕ) → number ≡ number_of_term parts.tables.terms term → IfNone number ((n : ℕ) → ¬ (term_numbered (graph_parts parts) n ≡ Some term))
   number_none term None e = λ n h. none n (e ∙ placed_term parts.tables.terms n term term apart.terms_apart h ((term_decides term term).1 refl))
     where
       none : (n : ℕ) → None ≡ Some n → ⊥

@@ -1,11 +1,5 @@
 -- Pairs that go, and pairs that come, one by one.
-use Rattle.std.proofs.Common.{◌≡◌, ◌∙◌, Bool, true, IsTrue, refl, ℕ, ◌+◌, ◌<◌, List, [], ◌∷◌, ◌++◌, length, get_or, take, ◌⊎◌, ◌↔◌, map, ap, sym, subst, inl, inr}
-use Rattle.std.proofs.lemmas.Bool.{false≢true}
-use Rattle.std.proofs.lemmas.List.{take_more, map-append}
-use Rattle.std.proofs.lemmas.Map.Lookups.{CmpEqualImpliesEq}
-use Rattle.std.specs.Ordering.{is_eq}
-use Rattle.std.specs.declared.cmp.Ordering.{Ordering}
-use Rattle.std.specs.declared.cmp.Ordering.TheVariants.{Less, Equal, Greater}
+use Rattle.std.proofs.Common.{◌≡◌, ◌∙◌, ℕ, ◌+◌, ◌<◌, List, [], ◌∷◌, ◌++◌, length, get_or, take, ◌⊎◌, ◌↔◌, sym, subst, inl, inr}
 use Rattle.tree_clock.specs.Lists.{Has}
 use Rattle.mld_ops.proofs.AscendingLaws.{has_append, has_left, has_right, has_take_more}
 

@@ -1,5 +1,5 @@
 -- What is found of numbered pairs by their numbers is what is found of the graph by its terms.
-use Rattle.std.proofs.Common.{◌≡◌, ◌∙◌, ℕ, ◌+◌, ◌*◌, ◌≤◌, suc, List, [], ◌∷◌, Bool, true, false, ◌&&◌, nat_eq, nat_le, length, map, Option, None, Some, ◌↔◌, ◌⊎◌, cond, IsTrue, refl, sym, subst, ap, inl, inr, arith}
+use Rattle.std.proofs.Common.{◌≡◌, ◌∙◌, ℕ, suc, List, [], ◌∷◌, Bool, true, false, ◌&&◌, nat_eq, nat_le, length, map, Option, None, Some, ◌↔◌, cond, refl, sym, subst, ap, inl, inr}
 use Rattle.std.proofs.lemmas.Bool.{and_parts, and_from, true≢false, false≢true}
 use Rattle.std.proofs.lemmas.Bool.Decides.{eqb_tells}
 use Rattle.std.specs.Bool.{Decides}
@@ -11,7 +11,6 @@ use Rattle.std.specs.declared.cmp.Ordering.{Ordering}
 use Rattle.std.specs.declared.cmp.Ordering.TheVariants.{Less, Equal, Greater}
 use Rattle.std.proofs.lemmas.Cmp.{tied_itself}
 use Rattle.rdf_terms.specs.declared.terms.Term.{Term}
-use Rattle.rdf_terms.specs.declared.terms.Term.TheVariants as terms
 use Rattle.rdf_terms.specs.declared.terms.Triple.{Triple}
 use Rattle.rdf_terms.specs.Order.{term_cmp, triple_cmp}
 use Rattle.rdf_terms.specs.OrderLaws.{triple_total, triple_exact}
@@ -24,12 +23,13 @@ use Rattle.mld_ops.proofs.AscendingLaws.{has_filter, ascending_filter}
 use Rattle.pair_orders.specs.declared.keys.Numbers.{Numbers}
 use Rattle.pair_orders.specs.declared.keys.Places.{Places}
 use Rattle.pair_orders.specs.Keys.{has_places, is_wanted}
-use Rattle.pair_orders.specs.Orders.{binary_digits}
 use Rattle.pair_orders.specs.PairEntries.{StandOnce, HasNumbers, HasTerms, FindsEntries, is_of_ticks}
 use Rattle.graph_index.specs.Graphs.{in_order_of, pairs_of}
 use Rattle.graph_index.specs.Matching.{has_iri, is_term, matches, is_of, is_within_range, FindsEach, HasTriple}
-use Rattle.graph_index.specs.TermNumbers.{TablesValue, AreNumbersOf, HaveOwnNumbers, IsNumbered, iri_number, term_number, path_number, number_given, ArePlaces, LackNumber}
-use Rattle.graph_index.proofs.Numbers.{same_iri, same_term, same_path, same_pair, same_numbers, term_decides}
+use Rattle.graph_index.specs.TermNumbers.{TablesValue, AreNumbersOf, HaveOwnNumbers, IsNumbered, iri_number, number_given, ArePlaces, LackNumber}
+use Rattle.number_tables.specs.TableNumbers.{number_of_term, number_of_path}
+use Rattle.number_tables.proofs.Numbers.{term_decides}
+use Rattle.graph_index.proofs.Numbers.{same_iri, same_term, same_path, same_pair, same_numbers}
 use Rattle.graph_index.proofs.Moving.{once_by_numbers}
 use Rattle.graph_index.proofs.WantedPlaces.{some_injective}
 use Rattle.graph_index.proofs.Putting.{order_members, order_ascends, order_is, order_count, order_length}
@@ -89,14 +89,14 @@ module _ (tables : TablesValue) (s p : Option (List ℕ)) (o : Option Term) wher
   iri_same : (a b : List ℕ) (n : ℕ) → iri_number tables a ≡ Some n → iri_number tables b ≡ Some n → a ≡ b
   iri_same a b n h k = same_iri tables.terms a b n h k
 
-  term_same : (a b : Term) (n : ℕ) → term_number tables.terms a ≡ Some n → term_number tables.terms b ≡ Some n → a ≡ b
+  term_same : (a b : Term) (n : ℕ) → number_of_term tables.terms a ≡ Some n → number_of_term tables.terms b ≡ Some n → a ≡ b
   term_same a b n h k = same_term tables.terms a b n h k
 
   as_iri : (given : Option (List ℕ)) (x : List ℕ) → has_iri given x ≡ is_part (pointwise nat_eq) bytes_decides (iri_number tables) iri_same given x
   as_iri None x = refl
   as_iri (Some given) x = refl
 
-  as_term : (given : Option Term) (x : Term) → is_term given x ≡ is_part (eq_by_cmp term_cmp) term_decides (term_number tables.terms) term_same given x
+  as_term : (given : Option Term) (x : Term) → is_term given x ≡ is_part (eq_by_cmp term_cmp) term_decides (number_of_term tables.terms) term_same given x
   as_term None x = refl
   as_term (Some given) x = refl
 
@@ -105,7 +105,7 @@ module _ (tables : TablesValue) (s p : Option (List ℕ)) (o : Option Term) wher
   matches_wanted wanted pair numbers are own =
       let a = as_iri s pair.triple.s ∙ part_wanted (pointwise nat_eq) bytes_decides (iri_number tables) iri_same s wanted.s pair.triple.s numbers.s are.s_is own.s in
       let b = as_iri p pair.triple.p ∙ part_wanted (pointwise nat_eq) bytes_decides (iri_number tables) iri_same p wanted.p pair.triple.p numbers.p are.p_is own.p in
-      let c = as_term o pair.triple.o ∙ part_wanted (eq_by_cmp term_cmp) term_decides (term_number tables.terms) term_same o wanted.o pair.triple.o numbers.o are.o_is own.o in
+      let c = as_term o pair.triple.o ∙ part_wanted (eq_by_cmp term_cmp) term_decides (number_of_term tables.terms) term_same o wanted.o pair.triple.o numbers.o are.o_is own.o in
       λ i. a i && (b i && c i)
 
   -- no pair with numbers matches where a given part has none
@@ -117,7 +117,7 @@ module _ (tables : TablesValue) (s p : Option (List ℕ)) (o : Option Term) wher
         | inl n ↦ part_lacks (pointwise nat_eq) bytes_decides (iri_number tables) iri_same s pair.triple.s numbers.s n own.s (sym (as_iri s pair.triple.s) ∙ t.0)
         | inr m ↦ elim m [
           | inl n ↦ part_lacks (pointwise nat_eq) bytes_decides (iri_number tables) iri_same p pair.triple.p numbers.p n own.p (sym (as_iri p pair.triple.p) ∙ u.0)
-          | inr n ↦ part_lacks (eq_by_cmp term_cmp) term_decides (term_number tables.terms) term_same o pair.triple.o numbers.o n own.o (sym (as_term o pair.triple.o) ∙ u.1)
+          | inr n ↦ part_lacks (eq_by_cmp term_cmp) term_decides (number_of_term tables.terms) term_same o pair.triple.o numbers.o n own.o (sym (as_term o pair.triple.o) ∙ u.1)
         ]
       ]
 
@@ -153,11 +153,11 @@ matches_itself triple dot = parts_of_triple triple triple refl
 
 -- ---- a dot's own path and tick
 
-range_wanted : (tables : TablesValue) (range : Range) (path : ℕ) (pair : Tagged) (numbers : Numbers) → Some path ≡ path_number tables.paths range.path → AreNumbersOf tables pair numbers
+range_wanted : (tables : TablesValue) (range : Range) (path : ℕ) (pair : Tagged) (numbers : Numbers) → Some path ≡ number_of_path tables.paths range.path → AreNumbersOf tables pair numbers
     → is_within_range range pair.dot ≡ is_of_ticks path range.first range.last numbers
 range_wanted tables range path pair numbers number own =
     let p = same_tests (pointwise nat_eq pair.dot.path range.path) (nat_eq numbers.path path)
-    (λ h. (nat_decides numbers.path path).1 (some_injective numbers.path path (sym own.path ∙ ap (path_number tables.paths) ((bytes_decides pair.dot.path range.path).0 h) ∙ sym number)))
+    (λ h. (nat_decides numbers.path path).1 (some_injective numbers.path path (sym own.path ∙ ap (number_of_path tables.paths) ((bytes_decides pair.dot.path range.path).0 h) ∙ sym number)))
     (λ h. (bytes_decides pair.dot.path range.path).1 (same_path tables.paths pair.dot.path range.path path
     (own.path ∙ ap (λ n. Some n) ((nat_decides numbers.path path).0 h)) (sym number))) in
     let t = sym own.tick in
@@ -259,7 +259,7 @@ module _ (tables : TablesValue) (pairs : List (Numbers × Tagged)) (are : HaveOw
 
   -- ---- a triple
 
-  pub triple_found : (triple : Triple) (s p o : ℕ) → iri_number tables triple.s ≡ Some s → iri_number tables triple.p ≡ Some p → term_number tables.terms triple.o ≡ Some o
+  pub triple_found : (triple : Triple) (s p o : ℕ) → iri_number tables triple.s ≡ Some s → iri_number tables triple.p ≡ Some p → number_of_term tables.terms triple.o ≡ Some o
       → HasTerms pairs s p o ↔ HasTriple view triple
   triple_found triple s p o es ep eo = (
     λ h.
@@ -287,7 +287,7 @@ module _ (tables : TablesValue) (pairs : List (Numbers × Tagged)) (are : HaveOw
 
   -- ---- a range
 
-  pub range_found : (range : Range) (path : ℕ) (found : List Tagged) → Some path ≡ path_number tables.paths range.path → StandOnce (map (λ (e : Numbers × Tagged). e.0) pairs)
+  pub range_found : (range : Range) (path : ℕ) (found : List Tagged) → Some path ≡ number_of_path tables.paths range.path → StandOnce (map (λ (e : Numbers × Tagged). e.0) pairs)
       → found ≡ pairs_of (filter (λ (e : Numbers × Tagged). is_of_ticks path range.first range.last e.0) pairs) → FindsEach (λ pair. is_within_range range pair.dot) view found
   range_found range path found number once e =
       let test : Numbers × Tagged → Bool = λ (e : Numbers × Tagged). is_of_ticks path range.first range.last e.0 in
@@ -307,14 +307,14 @@ module _ (tables : TablesValue) (pairs : List (Numbers × Tagged)) (are : HaveOw
         once = once_by_numbers tables (filter test pairs) (λ x h. are x ((has_filter test pairs x).0 h).0) (once_filter test pairs once);
       })
 
-  pub range_lacks : (range : Range) (found : List Tagged) → found ≡ [] → None ≡ path_number tables.paths range.path → FindsEach (λ pair. is_within_range range pair.dot) view found
+  pub range_lacks : (range : Range) (found : List Tagged) → found ≡ [] → None ≡ number_of_path tables.paths range.path → FindsEach (λ pair. is_within_range range pair.dot) view found
   range_lacks range found e none = subst (FindsEach (λ pair. is_within_range range pair.dot) view) (sym e) (record {
     members = λ pair. (
       λ h. absurd h,
       λ h.
           let n = numbered_in pair h.0 in
           let t = and_parts (pointwise nat_eq pair.dot.path range.path) (nat_le range.first pair.dot.tick && nat_le pair.dot.tick range.last) h.1 in
-          absurd (apart n.0.path (none ∙ ap (path_number tables.paths) (sym ((bytes_decides pair.dot.path range.path).0 t.0)) ∙ n.2.path)),
+          absurd (apart n.0.path (none ∙ ap (number_of_path tables.paths) (sym ((bytes_decides pair.dot.path range.path).0 t.0)) ∙ n.2.path)),
     );
     once = tt;
   })

@@ -1,5 +1,5 @@
 -- What becomes of a graph by a list, and by a cut.
-use Rattle.std.proofs.Common.{◌≡◌, ◌∙◌, ◌≤◌, List, [], ◌∷◌, ◌↔◌, ◌⊎◌, slice_index_or, slice_set, sym, subst, inl, inr, arith}
+use Rattle.std.proofs.Common.{◌≡◌, ◌≤◌, List, [], ◌∷◌, ◌↔◌, ◌⊎◌, slice_index_or, slice_set, sym, subst, inl, inr, arith}
 use Rattle.tree_clock.specs.Lists.{Has, IsAscending}
 use Rattle.mld_ops.specs.Applies.{Applies}
 use Rattle.mld_ops.specs.declared.cuts.Cut.{Cut}

@@ -1,3 +1,4 @@
+pub use Rattle.pair_orders.proofs.of_chunked_list.of_hinted_chunks as of_hinted_chunks
 pub mod ByNumbers
 pub mod Changing
 pub mod Entries

@@ -1,14 +1,12 @@
 -- Pairs that are put in order one by one: the list ascends and has the same pairs, and no fewer where none stood twice.
-use Rattle.std.proofs.Common.{◌≡◌, ◌∙◌, ℕ, ◌+◌, suc, List, [], ◌∷◌, Bool, true, false, length, map, ◌↔◌, ◌⊎◌, cond, if◌then◌else◌, refl, sym, subst, ap, inl, inr, arith}
-use Rattle.std.proofs.lemmas.Bool.{true≢false}
-use Rattle.std.proofs.lemmas.Cmp.{tied_itself, eq_by_cmp_equiv}
+use Rattle.std.proofs.Common.{◌≡◌, ◌∙◌, suc, List, [], ◌∷◌, Bool, true, false, length, map, ◌↔◌, ◌⊎◌, cond, refl, sym, subst, ap, inl, inr}
 use Rattle.std.proofs.lemmas.List.Sorted.{IsPermutation-map}
 use Rattle.std.specs.List.{filter}
 use Rattle.std.specs.List.Sorted.{IsPermutation, IsSortedBy}
-use Rattle.std.specs.Ordering.{is_lt, is_eq, ordering_reverse}
+use Rattle.std.specs.Ordering.{is_lt}
 use Rattle.std.specs.declared.cmp.Ordering.{Ordering}
 use Rattle.std.specs.declared.cmp.Ordering.TheVariants.{Less, Equal, Greater}
-use Rattle.tree_clock.specs.Lists.{Has, IsBelowAll, IsAscending}
+use Rattle.tree_clock.specs.Lists.{Has, IsAscending}
 use Rattle.mld_ops.specs.declared.tagged.Tagged.{Tagged}
 use Rattle.mld_ops.specs.Tagged.{tagged_cmp}
 use Rattle.mld_ops.proofs.AscendingLaws.{below_member, below_from_members, below_all_after, same_ascending}
@@ -16,7 +14,7 @@ use Rattle.mld_ops.proofs.TaggedLaws.{tagged_total, tagged_exact}
 use Rattle.graph_index.specs.Graphs.{put_by, with_pair, in_order_of}
 use Rattle.graph_index.specs.Matching.{HasNoRepeat}
 use Rattle.pair_orders.specs.PairEntries.{StandOnce}
-use Rattle.graph_index.proofs.Sorting.{same_members, sorted_once, view_sorted}
+use Rattle.graph_index.proofs.Sorting.{same_members, sorted_once, view_ascends, view_sorted}
 
 -- ---- the members
 
@@ -134,3 +132,7 @@ sorted_order f xs ys once moved up =
     let moved = IsPermutation-map f xs ys moved in
     order_is (map f xs) (map f ys) (sorted_once tagged_cmp tagged_total tagged_exact (map f xs) (map f ys) (stand_once (map f xs) once) moved (view_sorted f tagged_cmp ys up))
     (λ pair. same_members (map f xs) (map f ys) moved pair)
+
+-- pairs that ascend are in order
+pub ascending_order : {X : Type 0} (f : X → Tagged) (xs : List X) → IsAscending (λ a b. tagged_cmp (f a) (f b)) xs → map f xs ≡ in_order_of (map f xs)
+ascending_order f xs up = order_is (map f xs) (map f xs) (view_ascends f tagged_cmp xs up) (λ pair. (λ h. h, λ h. h))

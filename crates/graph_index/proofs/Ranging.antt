@@ -1,13 +1,13 @@
 -- The pairs of a range.
-use Rattle.std.proofs.Common.{◌≡◌, ◌∙◌, ℕ, ◌≤◌, List, Bool, true, false, not, ◌&&◌, nat_eq, nat_le, IsTrue, ◌↔◌, ◌⊎◌, Result, Ok, Err, IfOk, refl, sym, subst, ap, inl, inr, arith}
-use Rattle.std.proofs.lemmas.Bool.{and_parts, and_from, cases_lt, true≢false, false≢true}
+use Rattle.std.proofs.Common.{◌≡◌, ◌∙◌, ℕ, ◌≤◌, List, true, ◌&&◌, nat_eq, nat_le, IsTrue, ◌↔◌, Result, Ok, Err, IfOk, sym, subst, inl, inr, arith}
+use Rattle.std.proofs.lemmas.Bool.{and_parts, and_from, true≢false}
 use Rattle.std.proofs.lemmas.Bool.Decides.{leb_tells}
 use Rattle.std.specs.Cmp.Lexicographic.{pointwise, bytes_decides}
 use Rattle.std.specs.List.{filter}
 use Rattle.tree_clock.specs.declared.dots.Dot.{Dot}
 use Rattle.tree_clock.specs.declared.dots.Range.{Range}
 use Rattle.tree_clock.specs.Dot.{IsIn}
-use Rattle.tree_clock.specs.Lists.{Has, IsAscending}
+use Rattle.tree_clock.specs.Lists.{IsAscending}
 use Rattle.mld_ops.specs.declared.tagged.Tagged.{Tagged}
 use Rattle.mld_ops.specs.Applies.{IsOfRange}
 use Rattle.mld_ops.proofs.AscendingLaws.{has_filter, ascending_filter}

@@ -11,7 +11,7 @@ use Rattle.std.specs.List.Sorted.{IsPermutation, IsSorted, IsSortedBy}
 use Rattle.std.specs.Ordering.{is_lt, is_eq, eq_by_cmp, ordering_reverse}
 use Rattle.std.specs.declared.cmp.Ordering.{Ordering}
 use Rattle.std.specs.declared.cmp.Ordering.TheVariants.{Less, Equal, Greater}
-use Rattle.tree_clock.specs.Lists.{Has, IsAscending}
+use Rattle.tree_clock.specs.Lists.{Has, IsAscending, IsBelowAll}
 use Rattle.mld_ops.proofs.AscendingLaws.{contains_from_has, has_at, ascending_from_adjacent}
 use Rattle.pair_orders.specs.PairEntries.{StandOnce}
 
@@ -52,6 +52,15 @@ module _ {X Y : Type 0} (f : X → Y) (order : Y → Y → Ordering) where
   view_sorted (x ∷ y ∷ xs) h (suc k) d l g =
       let e : suc k + 1 ≡ suc (k + 1) = omega arith in
       rw e (view_sorted (y ∷ xs) (rest_sorted x (y ∷ xs) h) k d (omega arith) (omega (arith, g)))
+
+-- what ascends by its images has images that ascend
+view_below : {X Y : Type 0} (f : X → Y) (order : Y → Y → Ordering) (x : X) (xs : List X) → IsBelowAll (λ a b. order (f a) (f b)) x xs → IsBelowAll order (f x) (map f xs)
+view_below f order x [] below = tt
+view_below f order x (y ∷ ys) below = (below.0, view_below f order x ys below.1)
+
+pub view_ascends : {X Y : Type 0} (f : X → Y) (order : Y → Y → Ordering) (xs : List X) → IsAscending (λ a b. order (f a) (f b)) xs → IsAscending order (map f xs)
+view_ascends f order [] up = tt
+view_ascends f order (x ∷ xs) up = (view_below f order x xs up.0, view_ascends f order xs up.1)
 
 -- ---- a sorted list of which no element stands twice ascends
 module _ {X : Type 0} (R : X → X → Ordering) (total : IsTotalOrder R) (exact : CmpEqualImpliesEq R) where

@@ -1,5 +1,5 @@
 -- Pairs of one triple stand together, since those with its numbers do.
-use Rattle.std.proofs.Common.{◌≡◌, ◌∙◌, ℕ, List, [], ◌∷◌, Some, ◌⊎◌, refl, sym, subst, ap, inl, inr}
+use Rattle.std.proofs.Common.{◌≡◌, ◌∙◌, ℕ, List, [], ◌∷◌, Some, refl, sym, subst, ap, inl, inr}
 use Rattle.rdf_terms.specs.declared.terms.Triple.{Triple}
 use Rattle.tree_clock.specs.Lists.{Has}
 use Rattle.mld_ops.specs.declared.tagged.Tagged.{Tagged}
@@ -8,7 +8,8 @@ use Rattle.pair_orders.specs.PairEntries.{BeginsAlike, FindsEntries, StandTogeth
 use Rattle.pair_orders.specs.declared.keys.Numbers.{Numbers}
 use Rattle.pair_orders.specs.declared.keys.Places.{Places}
 use Rattle.graph_index.specs.Graphs.{pairs_of}
-use Rattle.graph_index.specs.TermNumbers.{TablesValue, AreNumbersOf, HaveOwnNumbers, iri_number, term_number}
+use Rattle.graph_index.specs.TermNumbers.{TablesValue, AreNumbersOf, HaveOwnNumbers, iri_number}
+use Rattle.number_tables.specs.TableNumbers.{number_of_term}
 use Rattle.graph_index.proofs.Numbers.{same_iri, same_term}
 use Rattle.graph_index.proofs.WantedPlaces.{some_injective}
 use Rattle.graph_index.proofs.Sorting.{image_has}
@@ -30,7 +31,7 @@ module _ (tables : TablesValue) where
   one_list a b h k e =
       let s = some_injective a.0.s b.0.s (sym h.s ∙ ap (λ (w : Triple). iri_number tables w.s) e ∙ k.s) in
       let p = some_injective a.0.p b.0.p (sym h.p ∙ ap (λ (w : Triple). iri_number tables w.p) e ∙ k.p) in
-      let o = some_injective a.0.o b.0.o (sym h.o ∙ ap (λ (w : Triple). term_number tables.terms w.o) e ∙ k.o) in
+      let o = some_injective a.0.o b.0.o (sym h.o ∙ ap (λ (w : Triple). number_of_term tables.terms w.o) e ∙ k.o) in
       λ i. (s i, p i, o i)
 
   begins_alike : (entry : Numbers × Tagged) (entries : List (Numbers × Tagged)) → AreNumbersOf tables entry.1 entry.0 → HaveOwnNumbers tables entries

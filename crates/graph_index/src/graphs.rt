@@ -16,7 +16,7 @@ ghost use Rattle.rdf_terms.specs.declared.terms.Triple.{Triple};
 ghost use Rattle.tree_clock.specs.Lists.{IsAscending};
 
 use crate::copies::{copy_found, dots_found};
-use crate::found::sort_found;
+use crate::found::{sort_found, sort_many};
 use crate::numbered::{gain_all, lose_all, with_numbers};
 use crate::parts::Parts;
 use crate::tables::Tables;
@@ -105,7 +105,7 @@ impl Graph {
         ensures ascending { IsAscending tagged_cmp self.now.pairs }
     {
         let mut pairs = self.parts().numbered.lend_all(alloc)?;
-        sort_found(&mut pairs);
+        sort_many(alloc, &mut pairs)?;
         Ok(pairs)
     }
 

@@ -1,7 +1,6 @@
 //! The pairs of a clone by the numbers of their terms: found, changed and matched by their parts.
 #![tactic(auto)]
 
-mod by_iri;
 mod changes;
 mod copies;
 mod found;
@@ -15,5 +14,6 @@ mod ranges;
 mod tables;
 
 pub use graphs::Graph;
+pub use pair_orders::chunked_list::hinted_chunks;
 pub use pair_orders::{Places, Steps, TermNumbers};
 pub use pair_sets::PairSet;

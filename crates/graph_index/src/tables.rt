@@ -1,49 +1,44 @@
 //! The numbers of terms and paths.
-ghost use Rattle.std.specs.Prelude.{◌≡◌, ◌<◌, ◌≤◌, ◌^◌, [], length, Some, IfSome, IfNone, IfOk, IsTrue, OnOk};
+ghost use Rattle.std.specs.Prelude.{◌≡◌, Some, IfSome, IfNone, IfOk, IsTrue, OnOk};
 ghost use Rattle.std.specs.List.{slice_get};
 ghost use Rattle.std.specs.Option.{option_copied};
 ghost use Rattle.rdf_terms.specs.declared.terms.Term.TheVariants as terms;
 ghost use Rattle.tree_clock.specs.Lists.{Has};
 ghost use Rattle.mld_ops.specs.declared.tagged.Tagged.{Tagged};
-ghost use Rattle.graph_index.specs.TermNumbers.{term_number, path_number, iri_number, number_given, StandApart, AreNumbersOf, IsNumbered, KeepsNumbers, ArePlaces, LackNumber};
+ghost use Rattle.graph_index.specs.TermNumbers.{iri_number, number_given, StandApart, AreNumbersOf, IsNumbered, KeepsNumbers, ArePlaces, LackNumber};
+ghost use Rattle.number_tables.specs.TableNumbers.{number_of_term, number_of_path};
 
-use crate::by_iri::ByIri;
-use indexmap::IndexSet;
 use mld_ops::Tagged;
+use number_tables::{PathTable, TermTable};
 use pair_orders::{Numbers, Places};
 use rdf_terms::{Iri, Term, Triple};
 use std::alloc::{AllocError, Global};
 use std::marker::Model;
 use tree_clock::Path;
 
-// So many values have numbers at most.
-const NUMBERS_LIMIT: usize = 4_294_967_295;
-
 /// The terms and the paths that have numbers. A number stays what it is.
 #[derive(Drop)]
 pub(crate) struct Tables {
-    terms: IndexSet<Term>,
-    paths: IndexSet<Path>,
+    terms: TermTable,
+    paths: PathTable,
 }
 
 impl Model for Tables {
-    ghost use Rattle.std.specs.Prelude.{◌<◌, ◌^◌, length};
     ghost use Rattle.graph_index.specs.TermNumbers.{TablesValue, StandApart};
 
     ghost Value = { TablesValue };
 
-    ghost view = { λ tables. record { terms = tables.terms.keys; paths = tables.paths.keys } };
+    ghost view = { λ tables. record { terms = tables.terms; paths = tables.paths } };
 
-    ghost invariant = { λ tables. (length tables.terms.keys < 2 ^ 32) × (length tables.paths.keys < 2 ^ 32)
-        × StandApart tables.terms.keys tables.paths.keys };
+    ghost invariant = { λ tables. StandApart tables.terms tables.paths };
 }
 
 impl Tables {
     /// No numbers.
     pub(crate) fn new(alloc: Global) -> Tables {
         Tables {
-            terms: IndexSet::new(alloc),
-            paths: IndexSet::new(alloc),
+            terms: TermTable::new(alloc),
+            paths: PathTable::new(alloc),
         }
     }
 
@@ -51,8 +46,7 @@ impl Tables {
     fn iri(&self, iri: &Iri) -> Option<u32>
         ensures { result ≡ iri_number self.now iri.now }
     {
-        let index = self.terms.get_index_of(ByIri { iri })?;
-        u32::try_from(index).ok()
+        self.terms.iri_number(iri)
     }
 
     /// How many terms have numbers, of which no two are the same.
@@ -66,29 +60,27 @@ impl Tables {
     pub(crate) fn term_at(&self, number: u32) -> Option<&Term>
         ensures { option_copied result ≡ slice_get self.now.terms number }
     {
-        self.terms.get_index(number as usize)
+        self.terms.get(number)
     }
 
     /// The number of a term.
     pub(crate) fn term(&self, term: &Term) -> Option<u32>
-        ensures { result ≡ term_number self.now.terms term.now }
+        ensures { result ≡ number_of_term self.now.terms term.now }
     {
-        let index = self.terms.get_index_of(term)?;
-        u32::try_from(index).ok()
+        self.terms.number(term)
     }
 
     /// The number of a path.
     pub(crate) fn path(&self, path: &Path) -> Option<u32>
-        ensures { result ≡ path_number self.now.paths path.now }
+        ensures { result ≡ number_of_path self.now.paths path.now }
     {
-        let index = self.paths.get_index_of(path)?;
-        u32::try_from(index).ok()
+        self.paths.number(path)
     }
 
     /// The numbers of a triple's terms, where all have one. It takes no memory.
     pub(crate) fn triple(&self, triple: &Triple) -> Option<(u32, u32, u32)>
         ensures some { IfSome result (λ numbers. (iri_number self.now triple.now.s ≡ Some numbers.0)
-            × (iri_number self.now triple.now.p ≡ Some numbers.1) × (term_number self.now.terms triple.now.o ≡ Some numbers.2)) }
+            × (iri_number self.now triple.now.p ≡ Some numbers.1) × (number_of_term self.now.terms triple.now.o ≡ Some numbers.2)) }
         ensures none { IfNone result (LackNumber self.now (Some triple.now.s) (Some triple.now.p) (Some triple.now.o)) }
     {
         let s = self.iri(&triple.s)?;
@@ -123,7 +115,7 @@ impl Tables {
 
     // The number that is wanted of a term, where one is given.
     fn wanted_term(&self, term: Option<&Term>) -> Option<Option<u64>>
-        ensures { result ≡ number_given (term_number self.now.terms) (option_copied term.entry) }
+        ensures { result ≡ number_given (number_of_term self.now.terms) (option_copied term.entry) }
     {
         match term {
             None => Some(None),
@@ -150,9 +142,9 @@ impl Tables {
 
     // Whether a term has this number.
     fn is_term_at(&self, number: u32, term: &Term) -> bool
-        ensures { IsTrue result → term_number self.now.terms term.now ≡ Some number }
+        ensures { IsTrue result → number_of_term self.now.terms term.now ≡ Some number }
     {
-        match self.terms.get_index(number as usize) {
+        match self.terms.get(number) {
             Some(own) => term == own,
             None => false,
         }
@@ -162,7 +154,7 @@ impl Tables {
     fn is_iri_at(&self, number: u32, iri: &Iri) -> bool
         ensures { IsTrue result → iri_number self.now iri.now ≡ Some number }
     {
-        match self.terms.get_index(number as usize) {
+        match self.terms.get(number) {
             Some(Term::Iri(own)) => own == iri,
             _ => false,
         }
@@ -170,9 +162,9 @@ impl Tables {
 
     // Whether a path has this number.
     fn is_path_at(&self, number: u32, path: &Path) -> bool
-        ensures { IsTrue result → path_number self.now.paths path.now ≡ Some number }
+        ensures { IsTrue result → number_of_path self.now.paths path.now ≡ Some number }
     {
-        match self.paths.get_index(number as usize) {
+        match self.paths.get(number) {
             Some(own) => path == own,
             None => false,
         }
@@ -226,7 +218,7 @@ impl Tables {
         let s = self.give_iri(&pair.triple.s)?;
         let p = self.give_iri(&pair.triple.p)?;
         let o = self.give_term(&pair.triple.o)?;
-        let path = self.give_path(pair.dot.path)?;
+        let path = self.give_path(&pair.dot.path)?;
         let tick = pair.dot.tick;
         Ok(Numbers {
             s,
@@ -242,44 +234,22 @@ impl Tables {
         ensures grown { KeepsNumbers self.old self.new }
         ensures ok { IfOk result (λ number. iri_number self.new iri.now ≡ Some number) }
     {
-        match self.iri(iri) {
-            Some(number) => Ok(number),
-            None => self.add_term(Term::Iri(iri.share()?)),
-        }
+        self.terms.give_iri(iri)
     }
 
     // The number of a term, which gets one where it has none.
     fn give_term(&mut self, term: &Term) -> Result<u32, AllocError>
         ensures grown { KeepsNumbers self.old self.new }
-        ensures ok { IfOk result (λ number. term_number self.new.terms term.now ≡ Some number) }
+        ensures ok { IfOk result (λ number. number_of_term self.new.terms term.now ≡ Some number) }
     {
-        match self.term(term) {
-            Some(number) => Ok(number),
-            None => self.add_term(term.share()?),
-        }
-    }
-
-    // The number of a term that has none yet, or has one.
-    fn add_term(&mut self, term: Term) -> Result<u32, AllocError>
-        ensures grown { KeepsNumbers self.old self.new }
-        ensures ok { IfOk result (λ number. term_number self.new.terms term ≡ Some number) }
-    {
-        if self.terms.len() >= NUMBERS_LIMIT {
-            return Err(AllocError);
-        }
-        let (number, _) = self.terms.insert_full(term)?;
-        Ok(number as u32)
+        self.terms.give(term)
     }
 
     // The number of a path, which gets one where it has none.
-    fn give_path(&mut self, path: Path) -> Result<u32, AllocError>
+    fn give_path(&mut self, path: &Path) -> Result<u32, AllocError>
         ensures grown { KeepsNumbers self.old self.new }
-        ensures ok { IfOk result (λ number. path_number self.new.paths path ≡ Some number) }
+        ensures ok { IfOk result (λ number. number_of_path self.new.paths path.now ≡ Some number) }
     {
-        if self.paths.len() >= NUMBERS_LIMIT {
-            return Err(AllocError);
-        }
-        let (number, _) = self.paths.insert_full(path)?;
-        Ok(number as u32)
+        self.paths.give(path)
     }
 }

@@ -1,9 +1,9 @@
-use Rattle.std.proofs.Common.{arith, sym, subst, List, inl, inr, refl, ◌∷◌, []}
+use Rattle.std.proofs.Common.{arith, sym, subst, List, inl, refl, ◌∷◌, []}
 use Rattle.tree_clock.specs.Lists.{Has}
 use Rattle.mld_ops.specs.declared.tagged.Tagged.{Tagged}
 use Rattle.mld_ops.proofs.AscendingLaws.{has_left, has_right}
 use Rattle.graph_index.specs.Graphs.{pairs_of}
-use Rattle.graph_index.proofs.Changing.{come_more, come_all}
+use Rattle.graph_index.proofs.Changing.{come_more}
 use Rattle.graph_index.proofs.numbered.gain_all.Goals as goal
 
 pub gain-requires-clause-pair : goal.gain-requires-clause-pair

@@ -3,8 +3,8 @@ use Rattle.tree_clock.specs.Lists.{Has}
 use Rattle.mld_ops.specs.declared.tagged.Tagged.{Tagged}
 use Rattle.mld_ops.proofs.AscendingLaws.{has_left, has_right}
 use Rattle.graph_index.specs.Graphs.{pairs_of}
-use Rattle.graph_index.proofs.Changing.{come_more, come_all}
-use Rattle.graph_index.proofs.Entries.{front_once, none_there}
+use Rattle.graph_index.proofs.Changing.{come_more}
+use Rattle.graph_index.proofs.Entries.{front_once}
 use Rattle.graph_index.proofs.numbered.with_numbers.Goals as goal
 
 pub add_entry-requires-clause-pair : goal.add_entry-requires-clause-pair

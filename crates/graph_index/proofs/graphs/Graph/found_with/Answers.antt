@@ -1,4 +1,4 @@
-use Rattle.std.proofs.Common.{ap, map, refl}
+use Rattle.std.proofs.Common.{map}
 use Rattle.graph_index.proofs.Ranging.{ok_weaker}
 use Rattle.graph_index.proofs.Finding.{of_triple_found}
 use Rattle.graph_index.proofs.graphs.Graph.found_with.Goals as goal

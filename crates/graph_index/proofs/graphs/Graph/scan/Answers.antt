@@ -1,4 +1,4 @@
-use Rattle.std.proofs.Common.{◌≡◌, ◌∙◌, ap, sym, subst, arith, map, length, List}
+use Rattle.std.proofs.Common.{ap, sym, subst, arith, map}
 use Rattle.std.specs.Option.{option_copied}
 use Rattle.mld_ops.specs.declared.tagged.Tagged.{Tagged}
 use Rattle.pair_orders.specs.Orders.{binary_digits}

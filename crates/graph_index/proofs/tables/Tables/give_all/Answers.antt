@@ -1,4 +1,4 @@
-use Rattle.std.proofs.Common.{subst, sym, ◌∙◌, inl, inr}
+use Rattle.std.proofs.Common.{subst, ◌∙◌, inl, inr}
 use Rattle.mld_ops.specs.declared.tagged.Tagged.{Tagged}
 use Rattle.mld_ops.proofs.AscendingLaws.{has_take_more}
 use Rattle.graph_index.specs.TermNumbers.{IsNumbered}

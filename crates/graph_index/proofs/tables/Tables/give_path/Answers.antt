@@ -1,15 +1,10 @@
 use Rattle.std.proofs.Common.{subst}
 use Rattle.graph_index.specs.TermNumbers.{TablesValue, KeepsNumbers}
-use Rattle.graph_index.proofs.Numbers.{grown_path, placed_path}
+use Rattle.graph_index.proofs.Numbers.{grown_path}
 use Rattle.graph_index.proofs.tables.Tables.give_path.Goals as goal
 
 pub returns-clause-grown : goal.returns-clause-grown
 returns-clause-grown c =
-    let new = c.insert_full.new.self.keys in
-    subst (λ (v : TablesValue). KeepsNumbers v (record { terms = c.self.inside.terms.keys; paths = new })) c.self.view_is
-    (grown_path (record { terms = c.self.inside.terms.keys; paths = c.self.inside.paths.keys }) new c.args.path c.in_ok-number.ensures.keys)
-
-pub returns-clause-ok : goal.returns-clause-ok
-returns-clause-ok c =
-    let stored = c.in_ok-number.ensures.stored in
-    placed_path c.insert_full.new.self.keys c.in_ok-number.number stored.0 c.args.path c.insert_full.ensures.unique stored.1 stored.2
+    let new = c.give.new.self in
+    subst (λ (v : TablesValue). KeepsNumbers v (record { terms = c.self.inside.terms; paths = new })) c.self.view_is
+    (grown_path (record { terms = c.self.inside.terms; paths = c.self.inside.paths }) new c.args.path.now c.give.result c.give.ensures.ok c.give.ensures.err)
