@@ -1,5 +1,5 @@
 -- What is written of terms, rows and subjects has no number with a fraction, so its text is known.
-use Rattle.std.proofs.Common.{◌≡◌, ◌∙◌, ℕ, ℤ, pos, negsuc, List, [], ◌∷◌, Bool, true, false, ◌||◌, Option, Some, None, refl, ap, map, true≢false}
+use Rattle.std.proofs.Common.{◌≡◌, ◌∙◌, ℕ, ℤ, pos, negsuc, List, [], ◌∷◌, Bool, true, false, ◌||◌, Option, Some, None, refl, ap, true≢false}
 use Rattle.std.specs.Prelude.{codes, nat_lt, ◌^◌, if◌then◌else◌}
 use Rattle.std.specs.Option.{option_and_then, option_map_or}
 use Rattle.std.specs.Cmp.Lexicographic.{slice_cmp}
@@ -7,10 +7,9 @@ use Rattle.std.specs.Ordering.{nat_cmp}
 use Rattle.std.specs.declared.cmp.Ordering.{Ordering}
 use Rattle.std.specs.declared.cmp.Ordering.TheVariants as orders
 use Rattle.std.specs.Ordering.{match_ordering}
-use Rattle.serde_json.specs.Data.{Data, null, boolean, number, string, array, object, Items, no_items, item, Members, no_members, member, Num, unsigned, negative, put}
-use Rattle.serde_json.specs.View.{items_of}
+use Rattle.serde_json.specs.Data.{Data, null, boolean, number, string, array, object, Members, no_members, member, Num, unsigned, negative, put}
 use Rattle.serde_json.specs.Find.{is_float}
-use Rattle.serde_json.specs.Written.{has_float, items_have_float, members_have_float}
+use Rattle.serde_json.specs.Written.{has_float, members_have_float}
 use Rattle.text_rules.specs.Integers.{plain_integer_value}
 use Rattle.rdf_terms.specs.Literal.{LiteralValue, Typed, Tagged, xsd_string, xsd_integer, is_same}
 use Rattle.rdf_terms.specs.declared.terms.Term.{Term}
@@ -20,7 +19,7 @@ use Rattle.jsonld_context.specs.Context.{ContextValue}
 use Rattle.jsonld_context.specs.Texts.{is_variable}
 use Rattle.jsonld_context.specs.ShortForms.{compact_id}
 use Rattle.jrql_patterns.specs.jsonld_values.Literals.{xsd_boolean}
-use Rattle.jrql_patterns.specs.jsonld_values.TermWriting.{json_number, plain_number, typed_data, string_data, boolean_data, integer_data, literal_data, term_data}
+use Rattle.jrql_patterns.specs.jsonld_values.TermWriting.{json_number, plain_number, typed_data, integer_data, literal_data, term_data}
 use Rattle.jrql_patterns.specs.jsonld_subjects.SubjectWriting.{KeyedTerm, SaysSubject, data_under, with_value, with_keyed, members_of_keyed}
 use Rattle.jrql_reply.specs.AnswerText.{row_members, row_data, with_variable, name_of}
 

@@ -8,7 +8,7 @@ ghost use Rattle.jrql_reply.specs.AnswerText.{SaysEach};
 
 use crate::items::push_item;
 use jrql_ast::Described;
-use jrql_patterns::jsonld_subjects::write_subject;
+use jrql_patterns::jsonld_subjects::{PropertyKeys, write_subject};
 use jsonld_context::Context;
 use std::alloc::AllocError;
 
@@ -23,10 +23,24 @@ pub(crate) fn push_subjects(
         × (out.new.items ≡ out.old.items ++ compact_text (array (items_of objects)))) }
     ensures err { OnErr result (KeepsStart out.old.items out.new.items) }
 {
+    let mut keys = PropertyKeys::under(*out.allocator(), context);
+    push_under(out, subjects, &mut keys)
+}
+
+/// The same, with the keys that are made for these subjects.
+fn push_under(
+    out: &mut Vec<u8>,
+    subjects: &[Described],
+    keys: &mut PropertyKeys<'_>,
+) -> Result<(), AllocError>
+    ensures ok { OnOk result ((objects : List Data) × SaysEach keys.old subjects.now objects
+        × (out.new.items ≡ out.old.items ++ compact_text (array (items_of objects)))) }
+    ensures err { OnErr result (KeepsStart out.old.items out.new.items) }
+{
     out.push(b'[')?;
     let mut later = false;
     for subject in subjects {
-        let value = write_subject(*out.allocator(), subject, context)?;
+        let value = write_subject(*out.allocator(), subject, keys)?;
         push_item(out, later, &value)?;
         later = true;
     }

@@ -5,6 +5,7 @@ pub mod KeyedMembers
 pub mod IdMembers
 pub mod SubjectsGivenBack
 pub mod Runs
+pub mod KeysMade
 pub mod Putting
 pub mod MemberLaws
 pub mod TypeProperty

@@ -3,6 +3,7 @@ pub mod SubjectReading
 pub mod SubjectWriting
 pub mod GivingBack
 pub mod KeyRuns
+pub mod KeysKept
 pub mod MemberReading
 pub mod ObjectReading
 pub mod NamesKept

@@ -8,7 +8,7 @@ ghost use Rattle.jsonld_subjects.specs.SubjectReading.{rdf_type};
 ghost use Rattle.jsonld_subjects.specs.SubjectWriting.{key_of, keyed_of, keyed_cmp, data_under};
 
 use crate::ids::RDF_TYPE;
-use jsonld_context::Context;
+use crate::property_keys::PropertyKeys;
 use jsonld_values::write_term;
 use rdf_terms::{Iri, Term, Triple, cmp_reply};
 use serde_json::Value;
@@ -40,11 +40,12 @@ impl KeyedTerm {
     pub(crate) fn of_triple(
         alloc: Global,
         triple: &Triple,
-        context: &Context,
+        keys: &mut PropertyKeys<'_>,
     ) -> Result<KeyedTerm, AllocError>
-        ensures { IfOk result (λ keyed. keyed ≡ keyed_of context.now triple.now) }
+        ensures keyed { IfOk result (λ keyed. keyed ≡ keyed_of keys.old triple.now) }
+        ensures context { keys.new ≡ keys.old }
     {
-        let key = key_of(alloc, &triple.p, &triple.o, context)?;
+        let key = key_of(alloc, &triple.p, &triple.o, keys)?;
         let term = triple.o.share()?;
         Ok(KeyedTerm { key, term })
     }
@@ -57,10 +58,15 @@ impl KeyedTerm {
     }
 
     /// The JSON value of the term under the key.
-    pub(crate) fn write(&self, alloc: Global, context: &Context) -> Result<Value, AllocError>
-        ensures { IfOk result (λ value. view value ≡ data_under context.now self.now.key self.now.term) }
+    pub(crate) fn write(
+        &self,
+        alloc: Global,
+        keys: &mut PropertyKeys<'_>,
+    ) -> Result<Value, AllocError>
+        ensures value { IfOk result (λ value. view value ≡ data_under keys.old self.now.key self.now.term) }
+        ensures context { keys.new ≡ keys.old }
     {
-        write_under(alloc, self.key.as_str(), &self.term, context)
+        write_under(alloc, self.key.as_str(), &self.term, keys)
     }
 
     /// Compares by keys, and under one key in the order of replies.
@@ -83,24 +89,35 @@ fn is_type(property: &Iri) -> bool
 }
 
 /// The key of an object of a property.
-fn key_of(alloc: Global, property: &Iri, term: &Term, context: &Context) -> Result<Text, AllocError>
-    ensures { IfOk result (λ key. key ≡ key_of context.now property.now term.now) }
+fn key_of(
+    alloc: Global,
+    property: &Iri,
+    term: &Term,
+    keys: &mut PropertyKeys<'_>,
+) -> Result<Text, AllocError>
+    ensures key { IfOk result (λ key. key ≡ key_of keys.old property.now term.now) }
+    ensures context { keys.new ≡ keys.old }
 {
     match term {
-        Term::Iri(_) => key_of_iri(alloc, property, context),
-        Term::Literal(_) => context.compact_key(alloc, property),
+        Term::Iri(_) => key_of_iri(alloc, property, keys),
+        Term::Literal(_) => keys.key(alloc, property),
     }
 }
 
 /// The key of an IRI that is the object of a property.
-fn key_of_iri(alloc: Global, property: &Iri, context: &Context) -> Result<Text, AllocError>
-    ensures { IfOk result
-        (λ key. key ≡ (if is_same property.now rdf_type then codes "@type" else compact_key context.now property.now)) }
+fn key_of_iri(
+    alloc: Global,
+    property: &Iri,
+    keys: &mut PropertyKeys<'_>,
+) -> Result<Text, AllocError>
+    ensures key { IfOk result
+        (λ key. key ≡ (if is_same property.now rdf_type then codes "@type" else compact_key keys.old property.now)) }
+    ensures context { keys.new ≡ keys.old }
 {
     if is_type(property) {
         return Text::new(alloc, TYPE_KEY);
     }
-    context.compact_key(alloc, property)
+    keys.key(alloc, property)
 }
 
 /// The JSON value of a term under a key.
@@ -108,26 +125,28 @@ fn write_under(
     alloc: Global,
     key: &str,
     term: &Term,
-    context: &Context,
+    keys: &mut PropertyKeys<'_>,
 ) -> Result<Value, AllocError>
-    ensures { IfOk result (λ value. view value ≡ data_under context.now key.now term.now) }
+    ensures value { IfOk result (λ value. view value ≡ data_under keys.old key.now term.now) }
+    ensures context { keys.new ≡ keys.old }
 {
     match term {
         Term::Iri(iri) => {
             if key == TYPE_KEY {
-                return write_type(alloc, iri, context);
+                return write_type(alloc, iri, keys);
             }
-            write_term(alloc, term, context)
+            write_term(alloc, term, keys.context())
         }
-        Term::Literal(_) => write_term(alloc, term, context),
+        Term::Literal(_) => write_term(alloc, term, keys.context()),
     }
 }
 
 /// An IRI as a value of `@type`.
-fn write_type(alloc: Global, iri: &Iri, context: &Context) -> Result<Value, AllocError>
-    ensures { IfOk result (λ value. view value ≡ string (compact_key context.now iri.now)) }
+fn write_type(alloc: Global, iri: &Iri, keys: &mut PropertyKeys<'_>) -> Result<Value, AllocError>
+    ensures value { IfOk result (λ value. view value ≡ string (compact_key keys.old iri.now)) }
+    ensures context { keys.new ≡ keys.old }
 {
-    text_value(alloc, context.compact_key(alloc, iri)?.as_str())
+    text_value(alloc, keys.key(alloc, iri)?.as_str())
 }
 
 /// A text as a JSON string.

@@ -11,6 +11,7 @@ mod objects;
 mod open_subjects;
 mod places;
 mod plain_values;
+mod property_keys;
 mod reading;
 mod writing;
 
@@ -22,5 +23,6 @@ pub use laws::{
 };
 pub use objects::{ObjectRead, read_object, stands_alone};
 pub use places::Place;
+pub use property_keys::PropertyKeys;
 pub use reading::read_subjects;
 pub use writing::write_subject;

@@ -5,7 +5,7 @@ use crate::subjects::put_alone;
 use crate::texts::put_value;
 use jrql_ast::{Described, Sequence};
 use jsonld_context::Context;
-use jsonld_subjects::{Place, write_subject};
+use jsonld_subjects::{Place, PropertyKeys, write_subject};
 use rdf_terms::{Iri, Triple, read_triple};
 use serde_json::Value;
 use std::alloc::{AllocError, Global};
@@ -46,7 +46,8 @@ fn put_subject(
     word: &str,
     subject: &Described,
 ) -> Result<bool, AllocError> {
-    let value = Box::new(alloc, write_subject(alloc, subject, context)?)?;
+    let mut keys = Box::new(alloc, PropertyKeys::under(alloc, context))?;
+    let value = Box::new(alloc, write_subject(alloc, subject, &mut keys)?)?;
     put_said(alloc, out, context, word, &value)
 }
 
