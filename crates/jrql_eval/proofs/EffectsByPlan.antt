@@ -1,5 +1,5 @@
 -- Which pairs an update deletes, and that a plan has one effect.
-use Rattle.std.proofs.Common.{◌≡◌, ℕ, ◌≤◌, List, [], ◌∷◌, Option, length, filter, flat_map, true, sym, subst, inl, inr, arith}
+use Rattle.std.proofs.Common.{◌≡◌, ◌↔◌, ℕ, ◌≤◌, List, [], ◌∷◌, Option, length, filter, flat_map, true, sym, subst, inl, inr, arith}
 use Rattle.std.proofs.lemmas.List.Sorted.{length_permutation}
 use Rattle.std.proofs.lemmas.Map.Views.{tells_apart}
 use Rattle.std.specs.Cmp.{eq_by_cmp_equiv}
@@ -23,6 +23,7 @@ use Rattle.jrql_ast.specs.QueryAnswers.{IsSolutions, found, solution_limit}
 use Rattle.jrql_ast.specs.Templates.{made_from}
 use Rattle.jrql_ast.proofs.OneSolutions.{one_solutions}
 use Rattle.jrql_ast.specs.FreshNames.{fresh_name}
+use Rattle.jrql_eval.specs.ConstantTemplates.{AreMadeBy}
 use Rattle.jrql_eval.specs.PlanEffects.{ArePairsOfAny, IsEffectBy, OneEffect}
 
 -- the pairs of triples, one triple after another
@@ -55,15 +56,34 @@ module _ (pairs : List Tagged) where
     );
   }
 
+-- what is made in any order is as good as what is made
+made_again : (made given kept : List Triple) → ((triple : Triple) → Has given triple ↔ Has made triple) → IsPutInOrder triple_cmp given kept → IsPutInOrder triple_cmp made kept
+made_again made given kept same order = record {
+  ascending = order.ascending;
+  members = λ triple. (λ h. (same triple).0 ((order.members triple).0 h), λ h. (order.members triple).1 ((same triple).1 h));
+}
+
+chosen_again : (pairs : List Tagged) (made given : List Triple) (kept : List Tagged) → ((triple : Triple) → Has given triple ↔ Has made triple) → ArePairsOfAny given pairs kept
+    → ArePairsOfAny made pairs kept
+chosen_again pairs made given kept same chosen = record {
+  ascending = chosen.ascending;
+  members = λ pair. (
+    λ h. let r = (chosen.members pair).0 h in (r.0, (same pair.triple).0 r.1),
+    λ h. (chosen.members pair).1 (h.0, (same pair.triple).1 h.1),
+  );
+}
+
 -- the effect of a plan by its solutions, of the lists that are made
 pub effect_of_made : (domain : List ℕ) (dot : Dot) (pairs : List Tagged) (plan : UpdatePlan) (rows : List (List (Option Term))) (gone put : List Triple) (deletes : List Tagged)
-    (inserts : List Triple) (effect : EffectValue) → gone ≡ made_from (fresh_name domain dot plan.fresh) plan.deletes 0 rows → IsPutInOrder triple_cmp gone put
-    → deletes ≡ pairs_of_each pairs put → inserts ≡ made_from (fresh_name domain dot plan.fresh) plan.inserts 0 rows → IsEffectOf deletes inserts effect
+    (inserts : List Triple) (effect : EffectValue) → AreMadeBy (fresh_name domain dot plan.fresh) plan.deletes rows gone → IsPutInOrder triple_cmp gone put
+    → deletes ≡ pairs_of_each pairs put → AreMadeBy (fresh_name domain dot plan.fresh) plan.inserts rows inserts → IsEffectOf deletes inserts effect
     → IsEffectBy domain dot pairs plan rows effect
-effect_of_made domain dot pairs plan rows gone put deletes inserts effect e order f g is = record {
-  deletes = subst (λ (made : List Triple). ArePairsOfAny made pairs effect.deletes) e (chosen_pairs pairs gone put deletes effect.deletes order f is.deletes_kept);
-  inserts = subst (λ (made : List Triple). IsPutInOrder triple_cmp made effect.inserts) g is.inserts_kept;
-}
+effect_of_made domain dot pairs plan rows gone put deletes inserts effect e order f g is =
+    let names = fresh_name domain dot plan.fresh in
+    record {
+      deletes = chosen_again pairs (made_from names plan.deletes 0 rows) gone effect.deletes e (chosen_pairs pairs gone put deletes effect.deletes order f is.deletes_kept);
+      inserts = made_again (made_from names plan.inserts 0 rows) inserts effect.inserts g is.inserts_kept;
+    }
 
 -- there are no more solutions than were found
 pub few_rows : (graph : List Triple) (group : Group) (rows : List (List (Option Term))) → IsSolutions graph group rows → length (found graph group) ≤ solution_limit

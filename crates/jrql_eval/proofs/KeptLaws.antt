@@ -16,7 +16,6 @@ use Rattle.mld_ops.proofs.AscendingLaws.{has_append, has_left, has_right}
 use Rattle.graph_index.specs.Graphs.{GraphValue}
 use Rattle.graph_index.specs.Numbered.{triple_numbered, TermNumbers}
 use Rattle.graph_index.proofs.Sorting.{same_members}
-use Rattle.jrql_ast.specs.declared.patterns.Filter.{Filter}
 use Rattle.jrql_ast.specs.declared.patterns.PatternTriple.{PatternTriple}
 use Rattle.jrql_ast.specs.QueryAnswers.{solution_limit}
 use Rattle.jrql_ast.specs.Solutions.{agree}
@@ -24,7 +23,8 @@ use Rattle.jrql_ast.proofs.Rearranging.{same_list}
 use Rattle.jrql_eval.specs.declared.faults.EvalFault.{EvalFault}
 use Rattle.jrql_eval.specs.declared.faults.EvalFault.TheVariants.{TooMany, NoMemory}
 use Rattle.jrql_eval.specs.declared.kept.Kept.{Kept}
-use Rattle.jrql_eval.specs.declared.plans.Stage.{Stage}
+use Rattle.jrql_plans.specs.declared.plans.PatternStage.{PatternStage}
+use Rattle.jrql_eval.specs.declared.searching.Ending.{Ending}
 use Rattle.jrql_eval.specs.Bindings.{BindingsValue, FindsFor}
 use Rattle.jrql_eval.specs.Evaluating.{IsBinding, led_from, led_to}
 use Rattle.jrql_eval.specs.KeptValues.{IsEmptyKept, KeepsFound, KeepsEachFound, KeepsRows, agree_numbered, rows_numbered, rows_of, taken}
@@ -172,19 +172,19 @@ there_from f (n ∷ found) (triple ∷ triples) e zero d l = ap is_some (ap some
 there_from f (n ∷ found) (triple ∷ triples) e (suc k) d l = there_from f found triples (ap some_tail e) k d (omega (arith, l))
 
 -- what is found of a pattern leads to what the graph does
-pub keeps_led : {X : Type 0} (filters : List Filter) (stage : Stage) (rest : List Stage) (row : BindingsValue) (found : List TermNumbers) (old new : Kept) (result : Result X EvalFault)
+pub keeps_led : {X : Type 0} (ending : Ending) (stage : PatternStage) (rest : List PatternStage) (row : BindingsValue) (found : List TermNumbers) (old new : Kept) (result : Result X EvalFault)
     → FindsFor stage.pattern.now row found
-    → KeepsFound old (flat_map (λ numbers. led_from (present row.graph.pairs) filters stage rest (agree_numbered row.graph stage.pattern.now row.row numbers)) found) result new
-    → KeepsFound old (led_to (present row.graph.pairs) filters (stage ∷ rest) row.row) result new
-keeps_led filters stage rest row found old new result finds k =
+    → KeepsFound old (flat_map (λ numbers. led_from (present row.graph.pairs) ending stage rest (agree_numbered row.graph stage.pattern.now row.row numbers)) found) result new
+    → KeepsFound old (led_to (present row.graph.pairs) ending (stage ∷ rest) row.row) result new
+keeps_led ending stage rest row found old new result finds k =
     let graph = present row.graph.pairs in
     let pattern = stage.pattern.now in
-    let behind = λ (o : Option Triple). led_from graph filters stage rest (option_and_then (λ triple. agree pattern triple row.row) o) in
+    let behind = λ (o : Option Triple). led_from graph ending stage rest (option_and_then (λ triple. agree pattern triple row.row) o) in
     let same : flat_map (λ numbers. behind (triple_numbered row.graph numbers)) found ≡ flat_map (λ (triple : Triple). behind (Some triple)) finds.triples =
     sym (flat_map-map behind (triple_numbered row.graph) found) ∙ ap (flat_map behind) finds.are ∙ flat_map-map behind (λ (triple : Triple). Some triple) finds.triples
     in
-    keeps_moved old (led_to graph filters (stage ∷ rest) row.row) (flat_map (λ (triple : Triple). behind (Some triple)) finds.triples) result new
-    (led_by graph filters stage rest row.row finds.triples finds.whole)
+    keeps_moved old (led_to graph ending (stage ∷ rest) row.row) (flat_map (λ (triple : Triple). behind (Some triple)) finds.triples) result new
+    (led_by graph ending stage rest row.row finds.triples finds.whole)
     (keeps_same old (flat_map (λ numbers. behind (triple_numbered row.graph numbers)) found) (flat_map (λ (triple : Triple). behind (Some triple)) finds.triples) result new same k)
 
 pub record AgreesSo (pattern : PatternTriple) (numbers : TermNumbers) (row : BindingsValue) (next : List (Option Term)) : Type 0 where

@@ -1,5 +1,5 @@
 -- What a stage's checks lead to, and a sort that went well.
-use Rattle.std.proofs.Common.{◌≡◌, ◌∙◌, List, [], ◌++◌, Bool, Option, Some, Result, Ok, Err, Bor, OnOk, if◌then◌else◌, map, filter, ap, subst}
+use Rattle.std.proofs.Common.{◌≡◌, ◌∙◌, List, [], ◌∷◌, ◌++◌, Bool, Option, Some, Result, Ok, Err, Bor, OnOk, if◌then◌else◌, map, filter, flat_map, ap, subst, arith}
 use Rattle.std.specs.List.Sorted.{IsPermutation, IsSortedBy}
 use Rattle.std.specs.Ordering.{is_lt}
 use Rattle.std.proofs.lemmas.List.Sorted.{IsPermutation-map}
@@ -7,12 +7,13 @@ use Rattle.graph_index.proofs.Sorting.{view_sorted}
 use Rattle.std.specs.declared.cmp.Ordering.{Ordering}
 use Rattle.rdf_terms.specs.declared.terms.Term.{Term}
 use Rattle.rdf_terms.specs.declared.terms.Triple.{Triple}
-use Rattle.jrql_ast.specs.declared.patterns.Filter.{Filter}
 use Rattle.jrql_ast.specs.declared.patterns.PatternTriple.{PatternTriple}
 use Rattle.jrql_ast.specs.QueryAnswers.{IsSortingOf}
 use Rattle.jrql_ast.specs.Solutions.{matches_from}
-use Rattle.jrql_eval.specs.declared.plans.Stage.{Stage}
-use Rattle.jrql_eval.specs.Evaluating.{all_hold, checks_of, planned, led_to, led_from}
+use Rattle.jrql_plans.specs.declared.plans.PatternStage.{PatternStage}
+use Rattle.jrql_plans.specs.PlannedGroups.{AreBranchesReady, AreReady, checks_of, planned}
+use Rattle.jrql_eval.specs.declared.searching.Ending.{Ending}
+use Rattle.jrql_eval.specs.Evaluating.{all_hold, ended_by, led_to, led_from}
 
 -- a sort that went well, by what each element is an image of
 pub sorting_viewed : {X Y A E S : Type 0} (f : X → Y) (order : Y → Y → Ordering) (old new : List X) (result : Result A E) → IsPermutation old new → OnOk result S
@@ -21,15 +22,17 @@ sorting_viewed f order old new (Ok done) same told sorted = record { same = IsPe
 sorting_viewed f order old new (Err e) same told sorted = tt
 
 -- what a stage checks is there, or isn't
-pub led_checked : (graph : List Triple) (filters : List Filter) (stage : Stage) (stages : List Stage) (o : Option (List (Option Term))) (next : List (Option Term)) → o ≡ Some next
+pub led_checked : (graph : List Triple) (ending : Ending) (stage : PatternStage) (stages : List PatternStage) (o : Option (List (Option Term))) (next : List (Option Term)) → o ≡ Some next
     → ((rest : List PatternTriple) → matches_from graph (checks_of stage ++ rest) next ≡ matches_from graph rest next)
-    → led_from graph filters stage stages o ≡ led_to graph filters stages next
-led_checked graph filters stage stages o next e h = ap (led_from graph filters stage stages) e ∙ ap (filter (all_hold filters)) (h (planned stages))
+    → led_from graph ending stage stages o ≡ led_to graph ending stages next
+led_checked graph ending stage stages o next e h =
+    ap (led_from graph ending stage stages) e ∙ ap (λ rows. filter (all_hold ending.filters.now) (flat_map (ended_by graph ending.branches.now) rows)) (h (planned stages))
 
-pub led_lost : (graph : List Triple) (filters : List Filter) (stage : Stage) (stages : List Stage) (o : Option (List (Option Term))) (next : List (Option Term)) → o ≡ Some next
+pub led_lost : (graph : List Triple) (ending : Ending) (stage : PatternStage) (stages : List PatternStage) (o : Option (List (Option Term))) (next : List (Option Term)) → o ≡ Some next
     → ((rest : List PatternTriple) → matches_from graph (checks_of stage ++ rest) next ≡ [])
-    → led_from graph filters stage stages o ≡ []
-led_lost graph filters stage stages o next e h = ap (led_from graph filters stage stages) e ∙ ap (filter (all_hold filters)) (h (planned stages))
+    → led_from graph ending stage stages o ≡ []
+led_lost graph ending stage stages o next e h =
+    ap (led_from graph ending stage stages) e ∙ ap (λ rows. filter (all_hold ending.filters.now) (flat_map (ended_by graph ending.branches.now) rows)) (h (planned stages))
 
 -- the same checks in the same row
 pub moved_checks : (graph : List Triple) (given checks : List (Bor PatternTriple)) (row next : List (Option Term)) (b : Bool) → given ≡ checks → row ≡ next
@@ -42,3 +45,8 @@ moved_checks graph given checks row next b e r h rest =
 pub on_ok_weaker : {A E P Q : Type 0} (result : Result A E) → (P → Q) → OnOk result P → OnOk result Q
 on_ok_weaker (Ok done) f h = f h
 on_ok_weaker (Err e) f h = tt
+
+-- where no branch is behind stages, they are ready by themselves
+pub ready_alone : (stages : List PatternStage) (row : List (Option Term)) → AreReady (λ next. Unit {0}) stages row → AreReady (AreBranchesReady []) stages row
+ready_alone [] row h = λ k d l. absurd (omega (arith, l))
+ready_alone (stage ∷ stages) row h = λ triple next e. let here = h triple next e in (here.0, ready_alone stages next here.1)

@@ -18,7 +18,8 @@ use Rattle.jrql_ast.specs.Solutions.{agree, is_same_term}
 use Rattle.jrql_ast.proofs.BoundSlots.{same_refl, none_some, some_is, agree_before_s, agree_before_p, agree_before_o}
 use Rattle.jrql_ast.proofs.Rearranging.{same_list}
 use Rattle.jrql_eval.specs.Bindings.{IsPlaceOf, FindsFor}
-use Rattle.jrql_eval.specs.Evaluating.{IsBoundIn, instance_of}
+use Rattle.jrql_plans.specs.PlannedGroups.{IsBoundIn}
+use Rattle.jrql_eval.specs.Evaluating.{instance_of}
 use Rattle.jrql_eval.proofs.Scanned.{none_unless, nothing_found, found_filtered, found_permuted}
 use Rattle.jrql_eval.proofs.TripleScans.{checked_by, unchecked}
 

@@ -1,8 +1,9 @@
 -- Where both sides of a filter are bound and it doesn't hold, it holds of no row behind.
-use Rattle.std.proofs.Common.{◌≡◌, ◌∙◌, List, [], ◌∷◌, ◌++◌, Bool, true, false, ◌&&◌, cond, Option, None, Some, Bor, All, length, get_or, map, filter, filter_map, flat_map, replicate, ℕ, zero, suc, ◌<◌, arith, refl, sym, ap, subst, inl, inr, true≢false}
+use Rattle.std.proofs.Common.{◌≡◌, ◌∙◌, List, [], ◌∷◌, ◌++◌, Bool, true, false, ◌&&◌, cond, Option, None, Some, Bor, All, filter, filter_map, flat_map, replicate, map-id, append-nil, ℕ, arith, refl, sym, ap, subst, inl, inr, true≢false}
 use Rattle.std.specs.List.{cons_option}
 use Rattle.std.specs.Option.{option_map_or, option_zip}
 use Rattle.std.proofs.lemmas.Bool.{cases_Bool}
+use Rattle.std.proofs.lemmas.List.Concat.{flat_map_single}
 use Rattle.std.proofs.lemmas.List.Elements.{All-tail, filter-append}
 use Rattle.rdf_terms.specs.declared.terms.Term.{Term}
 use Rattle.rdf_terms.specs.declared.terms.Triple.{Triple}
@@ -12,11 +13,15 @@ use Rattle.jrql_ast.specs.declared.patterns.Group.{Group}
 use Rattle.jrql_ast.specs.declared.patterns.PatternTriple.{PatternTriple}
 use Rattle.jrql_ast.specs.FilterMeaning.{compares_so, holds, side_value}
 use Rattle.jrql_ast.specs.InForm.{variables_of}
-use Rattle.jrql_ast.specs.Solutions.{agree, matches_from}
+use Rattle.jrql_ast.specs.Solutions.{agree, branches_of, matches_from}
 use Rattle.jrql_ast.proofs.BoundSlots.{agree_later}
-use Rattle.jrql_eval.specs.declared.plans.Stage.{Stage}
-use Rattle.jrql_eval.specs.KeptValues.{of_branch}
-use Rattle.jrql_eval.specs.Evaluating.{AreTestsOf, all_hold, all_can_hold, checks_of, led_from, can_hold, planned}
+use Rattle.jrql_ast.specs.QueryAnswers.{found}
+use Rattle.jrql_plans.specs.declared.plans.BranchPlan.{BranchPlan}
+use Rattle.jrql_plans.specs.declared.plans.PatternStage.{PatternStage}
+use Rattle.jrql_plans.specs.PlannedGroups.{checks_of, planned, planned_behind}
+use Rattle.jrql_eval.specs.declared.searching.Ending.{Ending}
+use Rattle.jrql_eval.specs.Evaluating.{all_hold, all_can_hold, can_hold, ended_by, led_from}
+use Rattle.jrql_eval.proofs.BranchLaws.{flat_map_twice}
 
 -- both sides of a filter are bound in a row, and it doesn't hold
 record Refuses (row : List (Option Term)) (test : Filter) : Type 0 where
@@ -81,45 +86,55 @@ filtered_none {X} {Y} {Z} p m h (x ∷ xs) none = by (h x) refl (filtered_none p
     by None e rest = rest
     by (Some y) e rest = filter-append p (m y) (flat_map m (filter_map h xs)) ∙ (λ i. none x y e i ++ rest i)
 
-lost : (graph : List Triple) (filters : List Filter) (test : Filter) → Has filters test → (patterns : List PatternTriple) (row : List (Option Term)) → Refuses row test
-    → filter (all_hold filters) (matches_from graph patterns row) ≡ []
-lost graph filters test has [] row r = ap (λ b. cond b (row ∷ []) []) (not_all_hold filters test row has (holds_not row test r))
-lost graph filters test has (pattern ∷ patterns) row r =
-    filtered_none (all_hold filters) (matches_from graph patterns) (λ triple. agree pattern triple row) graph
-    (λ triple next h. lost graph filters test has patterns next (refuses_later pattern triple row next test h r))
+module _ (graph : List Triple) (filters : List Filter) (test : Filter) (has : Has filters test) where
+  -- so it is with all rows to which patterns lead, where it is so with what comes of each
+  lost : (end : List (Option Term) → List (List (Option Term))) → ((row : List (Option Term)) → Refuses row test → filter (all_hold filters) (end row) ≡ [])
+      → (patterns : List PatternTriple) (row : List (Option Term)) → Refuses row test → filter (all_hold filters) (flat_map end (matches_from graph patterns row)) ≡ []
+  lost end none [] row r = ap (filter (all_hold filters)) (append-nil (end row)) ∙ none row r
+  lost end none (pattern ∷ patterns) row r =
+      ap (filter (all_hold filters)) (flat_map_twice (matches_from graph patterns) end (filter_map (λ triple. agree pattern triple row) graph))
+      ∙ filtered_none (all_hold filters) (λ next. flat_map end (matches_from graph patterns next)) (λ triple. agree pattern triple row) graph
+      (λ triple next h. lost end none patterns next (refuses_later pattern triple row next test h r))
+
+  lost_alone : (row : List (Option Term)) → Refuses row test → filter (all_hold filters) (row ∷ []) ≡ []
+  lost_alone row r = ap (λ b. cond b (row ∷ []) []) (not_all_hold filters test row has (holds_not row test r))
+
+  lost_each : {X : Type 0} (patterns : X → List PatternTriple) (xs : List X) (row : List (Option Term)) → Refuses row test
+      → filter (all_hold filters) (flat_map (λ x. matches_from graph (patterns x) row) xs) ≡ []
+  lost_each patterns [] row r = refl
+  lost_each patterns (x ∷ xs) row r =
+      filter-append (all_hold filters) (matches_from graph (patterns x) row) (flat_map (λ y. matches_from graph (patterns y) row) xs)
+      ∙ (λ i. lost_by (patterns x) row r i ++ lost_each patterns xs row r i)
+    where
+      lost_by : (all : List PatternTriple) (row : List (Option Term)) → Refuses row test → filter (all_hold filters) (matches_from graph all row) ≡ []
+      lost_by all row r =
+          ap (filter (all_hold filters)) (sym (flat_map_single (λ next. next) (matches_from graph all row) ∙ map-id (matches_from graph all row))) ∙ lost (λ next. next ∷ []) lost_alone all row r
 
 -- no row behind this one passes, where one of the filters can't hold
-pub none_behind : (graph : List Triple) (filters : List Filter) (tested : List (Bor Filter)) (patterns : List PatternTriple) (row : List (Option Term)) → All (λ t. Has filters t.now) tested
-    → all_can_hold tested row ≡ false → filter (all_hold filters) (matches_from graph patterns row) ≡ []
-none_behind graph filters tested patterns row within h =
-    let r = some_refuses tested row h in lost graph filters r.0.now (member_of filters tested r.0 within r.1) patterns row (refuses_from r.0.now row r.2)
+module _ (graph : List Triple) (filters : List Filter) (tested : List (Bor Filter)) (row : List (Option Term)) (within : All (λ t. Has filters t.now) tested) (h : all_can_hold tested row ≡ false) where
+  none_behind : (branches : List BranchPlan) (patterns : List PatternTriple) → filter (all_hold filters) (flat_map (ended_by graph branches) (matches_from graph patterns row)) ≡ []
+  none_behind branches patterns =
+      let r = some_refuses tested row h in
+      let has = member_of filters tested r.0 within r.1 in
+      lost graph filters r.0.now has (ended_by graph branches) (λ next refuses. lost_each graph filters r.0.now has (λ branch. branch) (planned_behind branches) next refuses) patterns row
+      (refuses_from r.0.now row r.2)
+
+  none_of_all : (patterns : List PatternTriple) (branches : List (List PatternTriple))
+      → filter (all_hold filters) (flat_map (λ branch. matches_from graph (patterns ++ branch) row) branches) ≡ []
+  none_of_all patterns branches =
+      let r = some_refuses tested row h in
+      lost_each graph filters r.0.now (member_of filters tested r.0 within r.1) (λ branch. patterns ++ branch) branches row (refuses_from r.0.now row r.2)
 
 -- so nothing comes of a stage
-pub led_refused : (graph : List Triple) (filters : List Filter) (given tested : List (Bor Filter)) (stage : Stage) (stages : List Stage) (o : Option (List (Option Term))) (row next : List (Option Term))
-    → o ≡ Some next → given ≡ tested → row ≡ next → All (λ t. Has filters t.now) tested → all_can_hold given row ≡ false → led_from graph filters stage stages o ≡ []
-led_refused graph filters given tested stage stages o row next e g r within h =
-    ap (led_from graph filters stage stages) e
-    ∙ none_behind graph filters tested (checks_of stage ++ planned stages) next within ((λ i. all_can_hold (sym g i) (sym r i)) ∙ h)
+pub led_refused : (graph : List Triple) (ending : Ending) (given tested : List (Bor Filter)) (stage : PatternStage) (stages : List PatternStage) (o : Option (List (Option Term))) (row next : List (Option Term))
+    → o ≡ Some next → given ≡ tested → row ≡ next → All (λ t. Has ending.filters.now t.now) tested → all_can_hold given row ≡ false → led_from graph ending stage stages o ≡ []
+led_refused graph ending given tested stage stages o row next e g r within h =
+    ap (led_from graph ending stage stages) e
+    ∙ none_behind graph ending.filters.now tested next within ((λ i. all_can_hold (sym g i) (sym r i)) ∙ h) ending.branches.now (checks_of stage ++ planned stages)
 
--- nor of a branch
-pub branch_refused : (graph : List Triple) (group : Group) (branch : List PatternTriple) (filters : List Filter) (given tested : List (Bor Filter)) (n : ℕ) (row start : List (Option Term))
-    → n ≡ variables_of group → start ≡ replicate n None → filters ≡ group.filters → given ≡ tested → row ≡ start
-    → All (λ t. Has filters t.now) tested → all_can_hold given row ≡ false → of_branch graph group branch ≡ []
-branch_refused graph group branch filters given tested n row start e s f g r within h =
-    none_behind graph group.filters tested (group.patterns ++ branch) (replicate (variables_of group) None)
-    (subst (λ (l : List Filter). All (λ t. Has l t.now) tested) f within)
-    ((λ i. all_can_hold (sym g i) (sym (r ∙ s ∙ ap (λ k. replicate k None) e) i)) ∙ h)
-
--- a stage more
-pub tests_more : (filters : List Filter) (stages : List Stage) (stage : Stage) → AreTestsOf filters stages → All (λ t. Has filters t.now) stage.tests.items → AreTestsOf filters (stages ++ stage ∷ [])
-tests_more filters [] stage all here = (here, tt)
-tests_more filters (first ∷ stages) stage all here = (all.0, tests_more filters stages stage all.1 here)
-
--- all filters are of those that they are
-pub all_members : (filters : List Filter) (all : List (Bor Filter)) → map (λ x. x.now) all ≡ filters → All (λ t. Has filters t.now) all
-all_members filters all e k d l = subst (λ (z : List Filter). Has z (get_or all k d).now) e (has_place all k d l)
-  where
-    has_place : (xs : List (Bor Filter)) (k : ℕ) (d : Bor Filter) → k < length xs → Has (map (λ x. x.now) xs) (get_or xs k d).now
-    has_place [] k d l = absurd (omega (arith, l))
-    has_place (x ∷ xs) zero d l = inl refl
-    has_place (x ∷ xs) (suc k) d l = inr (has_place xs k d (omega (arith, l)))
+-- nor of a group
+pub group_refused : (graph : List Triple) (group : Group) (given tested : List (Bor Filter)) (n : ℕ) (row start : List (Option Term)) → n ≡ variables_of group → start ≡ replicate n None
+    → given ≡ tested → row ≡ start → All (λ t. Has group.filters t.now) tested → all_can_hold given row ≡ false → found graph group ≡ []
+group_refused graph group given tested n row start e s g r within h =
+    none_of_all graph group.filters tested (replicate (variables_of group) None) within ((λ i. all_can_hold (sym g i) (sym (r ∙ s ∙ ap (λ k. replicate k None) e) i)) ∙ h)
+    group.patterns (branches_of group.branches)

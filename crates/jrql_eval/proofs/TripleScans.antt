@@ -25,7 +25,8 @@ use Rattle.jrql_ast.specs.declared.patterns.PatternTriple.{PatternTriple}
 use Rattle.jrql_ast.specs.QueryAnswers.{IsSortingOf}
 use Rattle.jrql_ast.specs.Solutions.{agree}
 use Rattle.jrql_ast.proofs.Sortings.{one_sorting}
-use Rattle.jrql_eval.specs.Evaluating.{IsBoundIn, has_parts, instance_of}
+use Rattle.jrql_plans.specs.PlannedGroups.{IsBoundIn}
+use Rattle.jrql_eval.specs.Evaluating.{has_parts, instance_of}
 use Rattle.jrql_eval.proofs.BranchLaws.{sorting_of}
 use Rattle.jrql_eval.proofs.EachOnce.{neighbours_once, once_ascending, once_permutes}
 use Rattle.jrql_eval.proofs.Scanned.{there, absent, no_triple}

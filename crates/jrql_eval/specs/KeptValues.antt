@@ -1,20 +1,16 @@
 -- Rows that are kept of those that are found: by the numbers of their terms, without the columns that nobody asks for, and how many may be
 -- found. The private calls that find, sort and drop rows cite it.
 use Rattle.std.specs.Prelude.{◌≡◌, ℕ, ◌+◌, ◌<◌, ◌≤◌, ◌⊎◌, ◌↔◌, List, [], ◌++◌, Bool, true, false, Option, None, Some, Result, Ok, Err, Vec, length, map}
-use Rattle.std.specs.List.{filter}
 use Rattle.std.specs.List.Sorted.{IsPermutation}
 use Rattle.std.specs.Option.{option_and_then, option_copied}
 use Rattle.rdf_terms.specs.declared.terms.Term.{Term}
-use Rattle.rdf_terms.specs.declared.terms.Triple.{Triple}
 use Rattle.tree_clock.specs.Lists.{Has}
 use Rattle.graph_index.specs.Graphs.{GraphValue}
 use Rattle.graph_index.specs.Numbered.{triple_numbered, TermNumbers}
-use Rattle.jrql_ast.specs.declared.patterns.Group.{Group}
 use Rattle.jrql_ast.specs.declared.patterns.PatternTriple.{PatternTriple}
 use Rattle.jrql_ast.specs.QueryAnswers.{project, solution_limit}
-use Rattle.jrql_ast.specs.Solutions.{agree, matches_from, unbound}
+use Rattle.jrql_ast.specs.Solutions.{agree}
 use Rattle.jrql_eval.specs.Bindings.{row_numbered}
-use Rattle.jrql_eval.specs.Evaluating.{all_hold}
 use Rattle.jrql_eval.specs.declared.faults.EvalFault.{EvalFault}
 use Rattle.jrql_eval.specs.declared.faults.EvalFault.TheVariants.{TooMany, NoMemory}
 use Rattle.jrql_eval.specs.declared.kept.Kept.{Kept}
@@ -63,7 +59,3 @@ pub record IsEmptyKept (graph : GraphValue) (columns : Option (List ℕ)) (disti
 -- the row once a pattern is the triple of these numbers, where they agree
 abbrev pub agree_numbered : GraphValue → PatternTriple → List (Option Term) → TermNumbers → Option (List (Option Term))
 agree_numbered graph pattern row numbers = option_and_then (λ triple. agree pattern triple row) (triple_numbered graph numbers)
-
--- the solutions that a group's patterns have together with a branch
-abbrev pub of_branch : List Triple → Group → List PatternTriple → List (List (Option Term))
-of_branch graph group branch = filter (all_hold group.filters) (matches_from graph (group.patterns ++ branch) (unbound group))

@@ -1,7 +1,9 @@
 pub mod Asked
 pub mod Bindings
 pub mod ColumnOrder
+pub mod ConstantTemplates
 pub mod Evaluating
 pub mod KeptValues
-pub mod Planning
 pub mod PlanEffects
+pub mod RowFronts
+pub mod RowFrontLaws

@@ -11,8 +11,9 @@ ghost use Rattle.jrql_eval.specs.PlanEffects.{HasTooMany, IsEffectBy, IsPlanEffe
 
 use crate::faults::EvalFault;
 use crate::solving::solutions;
+use crate::templates::made_in_any_order;
 use graph_index::Graph;
-use jrql_ast::{Row, UpdatePlan, made_triples};
+use jrql_ast::{Row, UpdatePlan};
 use mld_ops::{Effect, Tagged};
 use rdf_terms::{Triple, cmp_triples};
 use std::alloc::{AllocError, Global};
@@ -55,10 +56,10 @@ fn effect_by(
     let fresh = plan.fresh;
     let to_delete = plan.deletes.as_slice();
     let to_insert = plan.inserts.as_slice();
-    let mut gone = made_triples(alloc, domain, dot, fresh, to_delete, rows)?;
+    let mut gone = made_in_any_order(alloc, domain, dot, fresh, to_delete, rows)?;
     put_triples(&mut gone);
     let deletes = pairs_of(alloc, graph, &gone)?;
-    let inserts = made_triples(alloc, domain, dot, fresh, to_insert, rows)?;
+    let inserts = made_in_any_order(alloc, domain, dot, fresh, to_insert, rows)?;
     Ok(Effect::new(deletes, inserts))
 }
 

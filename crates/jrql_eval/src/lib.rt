@@ -9,12 +9,14 @@ mod effects;
 mod faults;
 mod kept;
 mod limits;
-mod plans;
+mod places;
+mod row_orders;
 mod rows;
 mod scanning;
 mod searching;
 mod selecting;
 mod solving;
+mod templates;
 
 pub use describing::describe;
 pub use effects::{effect, one_effect};

@@ -15,7 +15,8 @@ ghost use Rattle.jrql_ast.specs.FilterMeaning.{side_value};
 ghost use Rattle.jrql_ast.specs.Solutions.{agree, matches_from};
 ghost use Rattle.graph_index.specs.Numbered.{iri_of_term, term_numbered, AreAllNumbered, FindsNumbered};
 ghost use Rattle.jrql_eval.specs.Bindings.{IsPlaceOf, FindsFor};
-ghost use Rattle.jrql_eval.specs.Evaluating.{IsBoundIn, has_parts};
+ghost use Rattle.jrql_plans.specs.PlannedGroups.{IsBoundIn};
+ghost use Rattle.jrql_eval.specs.Evaluating.{has_parts};
 
 use crate::bindings::Bindings;
 use graph_index::{Graph, Places, Steps, TermNumbers};

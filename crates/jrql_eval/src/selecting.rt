@@ -9,18 +9,24 @@ ghost use Rattle.jrql_eval.specs.KeptValues.{rows_numbered};
 
 use crate::faults::EvalFault;
 use crate::kept::no_rows;
-use crate::rows::{cmp_reply_rows, cmp_rows, make_rows};
+use crate::row_orders::ByReplies;
+use crate::rows::{cmp_rows, make_rows};
 use crate::solving::find_rows;
 use graph_index::Graph;
+use graph_index::hinted_chunks::sort_by_hints;
 use jrql_ast::{Answer, Query, Row, Select, Sequence, What};
 use std::alloc::{AllocError, Global};
 
 // Sorts rows by their values, from the first, in the order of replies.
-fn sort_values(graph: &Graph, rows: &mut Vec<Vec<Option<u32>>>) -> Result<(), AllocError>
+fn sort_values(
+    alloc: Global,
+    graph: &Graph,
+    rows: &mut Vec<Vec<Option<u32>>>,
+) -> Result<(), AllocError>
     ensures { OnOk result (IsSortingOf (slice_cmp reply_place_cmp) (rows_numbered graph.now rows.old.items)
         (rows_numbered graph.now rows.new.items)) }
 {
-    rows.sort_by(|row, other| cmp_reply_rows(graph, row, other))
+    sort_by_hints(alloc, &ByReplies { graph }, rows)
 }
 
 // Each row once, where that is asked for.
@@ -72,7 +78,7 @@ fn selected(
 ) -> Result<Sequence<Row>, AllocError>
     ensures { IfOk result (IsSelectedOf select.now (rows_numbered graph.now rows.old.items)) }
 {
-    sort_values(graph, rows)?;
+    sort_values(alloc, graph, rows)?;
     drop_repeats(select.distinct, graph, rows);
     let left = cut(rows, select.offset, select.limit);
     Ok(Sequence::from_vec(make_rows(alloc, graph, left)?))

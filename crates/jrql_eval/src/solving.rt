@@ -1,22 +1,23 @@
 //! The solutions of a group.
 ghost use Rattle.std.specs.Prelude.{◌≡◌, ◌<◌, ◌≤◌, length, IfOk, OnOk, IsErrOf};
-ghost use Rattle.std.specs.List.{All, flat_map};
 ghost use Rattle.mld_ops.specs.Present.{present};
-ghost use Rattle.jrql_ast.specs.InForm.{IsGroupInForm, IsPatternWithin, variables_of};
+ghost use Rattle.jrql_ast.specs.InForm.{IsGroupInForm, variables_of};
 ghost use Rattle.jrql_ast.specs.QueryAnswers.{IsSolutions, IsSortingOf, found, row_cmp, solution_limit};
-ghost use Rattle.jrql_eval.specs.KeptValues.{KeepsFound, of_branch, rows_numbered};
+ghost use Rattle.jrql_eval.specs.KeptValues.{KeepsFound, rows_numbered};
 
 use crate::bindings::Bindings;
 use crate::columns::columns;
 use crate::faults::EvalFault;
 use crate::kept::{Kept, no_rows};
-use crate::plans::plan_of;
-use crate::rows::{cmp_by, make_rows};
+use crate::row_orders::ByColumns;
+use crate::rows::make_rows;
 use crate::scanning::are_present;
-use crate::searching::search;
+use crate::searching::{Ending, search};
 use graph_index::Graph;
-use jrql_ast::{Group, PatternTriple, Row, Sequence};
+use graph_index::hinted_chunks::sort_by_hints;
+use jrql_ast::{Group, Row};
 use jrql_filters::all_can_hold;
+use jrql_plans::plan_of;
 use std::alloc::{AllocError, Global};
 
 // How many variables a group has.
@@ -27,70 +28,30 @@ fn variables_of(group: &Group) -> usize
     group.names.len() + group.hidden as usize
 }
 
-// Finds the solutions that the patterns of a group have together with a branch.
-fn add_branch(
-    alloc: Global,
-    group: &Group,
-    branch: &[PatternTriple],
-    kept: &mut Kept<'_>,
-) -> Result<(), EvalFault>
-    requires form { IsGroupInForm group.now }
-    requires branch { All (IsPatternWithin (variables_of group.now) 0) branch.now }
-    requires few { kept.old.count ≤ solution_limit }
-    ensures { KeepsFound kept.old (of_branch (present kept.old.graph.now.pairs) group.now branch.now) result kept.new }
-{
-    let variables = variables_of(group);
-    let plan = plan_of(
-        alloc,
-        group.patterns.as_slice(),
-        branch,
-        group.filters.as_slice(),
-        variables,
-    )?;
-    let start = Bindings::unbound(alloc, kept.graph, variables)?;
-    if !all_can_hold(&plan.tests, &start) {
-        return Ok(());
-    }
-    if !are_present(&plan.checks, &start) {
-        return Ok(());
-    }
-    search(alloc, group.filters.as_slice(), &plan.stages, &start, kept)
-}
-
 /// Keeps the solutions of a group, in whatever order.
 pub(crate) fn find_rows(alloc: Global, group: &Group, kept: &mut Kept<'_>) -> Result<(), EvalFault>
     requires form { IsGroupInForm group.now }
     requires few { kept.old.count ≤ solution_limit }
     ensures { KeepsFound kept.old (found (present kept.old.graph.now.pairs) group.now) result kept.new }
 {
-    if group.branches.is_empty() {
-        add_branch(alloc, group, &[], kept)
-    } else {
-        find_branches(alloc, group, group.branches.as_slice(), kept)
+    let plan = plan_of(alloc, group)?;
+    let start = Bindings::unbound(alloc, kept.graph, variables_of(group))?;
+    if !all_can_hold(&plan.tests, &start) {
+        return Ok(());
     }
-}
-
-// Keeps the solutions that a group has with these branches.
-fn find_branches(
-    alloc: Global,
-    group: &Group,
-    branches: &[Sequence<PatternTriple>],
-    kept: &mut Kept<'_>,
-) -> Result<(), EvalFault>
-    requires form { IsGroupInForm group.now }
-    requires branches { All (All (IsPatternWithin (variables_of group.now) 0)) branches.now }
-    requires few { kept.old.count ≤ solution_limit }
-    ensures { KeepsFound kept.old (flat_map (of_branch (present kept.old.graph.now.pairs) group.now) branches.now) result
-        kept.new }
-{
-    for branch in branches {
-        add_branch(alloc, group, branch.as_slice(), kept)?;
+    if !are_present(&plan.checks, &start) {
+        return Ok(());
     }
-    Ok(())
+    let ending = Ending {
+        filters: group.filters.as_slice(),
+        branches: &plan.branches,
+    };
+    search(alloc, &ending, &plan.stages, &start, kept)
 }
 
 // Sorts rows by their values for these variables.
 fn sort_rows(
+    alloc: Global,
     graph: &Graph,
     columns: &[u16],
     rows: &mut Vec<Vec<Option<u32>>>,
@@ -98,7 +59,7 @@ fn sort_rows(
     ensures { OnOk result (IsSortingOf (row_cmp columns.now) (rows_numbered graph.now rows.old.items)
         (rows_numbered graph.now rows.new.items)) }
 {
-    rows.sort_by(|row, other| cmp_by(graph, columns, row, other))
+    sort_by_hints(alloc, &ByColumns { graph, columns }, rows)
 }
 
 /// The solutions of a group, sorted by its named variables in the order of their names, then by its hidden ones: for each branch all
@@ -114,6 +75,6 @@ pub fn solutions(alloc: Global, graph: &Graph, group: &Group) -> Result<Vec<Row>
     let columns = columns(alloc, group.names.as_slice(), group.hidden)?;
     let mut kept = no_rows(alloc, graph, None, false);
     find_rows(alloc, group, &mut kept)?;
-    sort_rows(graph, &columns, &mut kept.rows)?;
+    sort_rows(alloc, graph, &columns, &mut kept.rows)?;
     Ok(make_rows(alloc, graph, &kept.rows)?)
 }

@@ -1,7 +1,7 @@
-use Rattle.std.proofs.Common.{◌∙◌, List, ap}
+use Rattle.std.proofs.Common.{◌∙◌, List, ap, subst}
 use Rattle.jrql_ast.specs.declared.patterns.PatternTriple.{PatternTriple}
-use Rattle.jrql_ast.specs.Templates.{made_from}
 use Rattle.jrql_ast.specs.FreshNames.{fresh_name}
+use Rattle.jrql_eval.specs.ConstantTemplates.{AreMadeBy}
 use Rattle.jrql_eval.proofs.EffectsByPlan.{effect_of_made, pairs_of_each}
 use Rattle.jrql_eval.proofs.effects.effect_by.Goals as goal
 
@@ -13,8 +13,8 @@ returns c =
     let names = fresh_name c.args.domain.now c.args.dot.now plan.fresh in
     effect_of_made c.args.domain.now c.args.dot.now pairs plan rows c.in_ok-gone.gone.items c.put_triples.new.triples.items c.in_ok-deletes.deletes.items
     c.in_ok-inserts.inserts.items c.new.result
-    (c.in_ok-gone.ensures ∙ ap (λ (templates : List PatternTriple). made_from names templates 0 rows) c.as_slice-to_delete.ensures)
+    (subst (λ (templates : List PatternTriple). AreMadeBy names templates rows c.in_ok-gone.gone.items) c.as_slice-to_delete.ensures c.in_ok-gone.ensures)
     c.put_triples.ensures
     (c.in_ok-deletes.ensures ∙ ap (pairs_of_each pairs) c.deref.ensures.value)
-    (c.in_ok-inserts.ensures ∙ ap (λ (templates : List PatternTriple). made_from names templates 0 rows) c.as_slice-to_insert.ensures)
+    (subst (λ (templates : List PatternTriple). AreMadeBy names templates rows c.in_ok-inserts.inserts.items) c.as_slice-to_insert.ensures c.in_ok-inserts.ensures)
     c.new.ensures

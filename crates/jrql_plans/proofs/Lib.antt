@@ -1,0 +1,4 @@
+pub mod FirstMost
+pub mod PlanLaws
+pub mod PlanSteps
+pub mod Planned

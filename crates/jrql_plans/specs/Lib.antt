@@ -1,0 +1,2 @@
+pub mod PlannedGroups
+pub mod Planning
