@@ -1,3 +1,4 @@
+pub use Rattle.schedule_model.proofs as of_schedule_model
 pub use Rattle.clone_core.proofs.of_journal_sides as of_journal_sides
 pub use Rattle.clone_core.proofs.of_journal_store as of_journal_store
 pub use Rattle.clone_core.proofs.of_clone_parts as of_clone_parts

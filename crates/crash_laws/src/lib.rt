@@ -11,3 +11,4 @@ pub use clone_core;
 pub use clone_core::{clone_parts, journal_sides, journal_store};
 pub use deeds::{deeds_done, deeds_refused};
 pub use lines::crash_lines_stand;
+pub use schedule_model;

@@ -19,10 +19,10 @@ use Rattle.mld_model.specs.StandsFor.{CloneStandsFor, LiveAt, AskingAt}
 use Rattle.mld_model.specs.World.{World, clone_at}
 use Rattle.mld_model.specs.declared.CloneState.TheVariants as states
 use Rattle.mld_model.proofs.StandsForLaws.{live_at, asking_at}
-use Rattle.schedule_model.specs.Crashing.{IsArmed, IsUp, opening_calls}
-use Rattle.schedule_model.specs.Tasks.{command_of, number_of_task, IsToOpen}
-use Rattle.schedule_model.specs.declared.CrashTask.{CrashTask}
-use Rattle.schedule_model.specs.declared.CrashTask.TheVariants as tasks
+use Rattle.schedule_text.specs.schedule_model.Crashing.{IsArmed, IsUp, opening_calls}
+use Rattle.schedule_text.specs.schedule_model.Tasks.{command_of, number_of_task, IsToOpen}
+use Rattle.schedule_text.specs.schedule_model.declared.CrashTask.{CrashTask}
+use Rattle.schedule_text.specs.schedule_model.declared.CrashTask.TheVariants as tasks
 use Rattle.clone_core.specs.clone_parts.KeptSteps.{KeptStep, Created, calls_of_all, ReadsCaught, LeavesSome}
 use Rattle.clone_core.specs.Banked.{head_of, kept_as}
 use Rattle.clone_core.specs.Opening.{mount_calls}

@@ -14,13 +14,13 @@ use Rattle.mld_model.specs.Sound.{IsSound}
 use Rattle.mld_model.specs.StandsFor.{RunningClone, RunningWorld, StandsFor}
 use Rattle.mld_model.specs.World.{World, clone_at}
 use Rattle.mld_model.specs.declared.CloneState.TheVariants as states
-use Rattle.schedule_model.specs.Crashing.{IsArmed, Deed, isnt_armed}
-use Rattle.schedule_model.specs.Step.{IsTaskInForm}
-use Rattle.schedule_model.specs.Tasks.{command_of, number_of_task}
-use Rattle.schedule_model.specs.WorldStep.{stepped_into}
-use Rattle.schedule_model.specs.declared.Command.TheVariants.{Crash}
-use Rattle.schedule_model.specs.declared.CrashTask.{CrashTask}
-use Rattle.schedule_model.proofs.CrashFollows.{plain_step, deed_of}
+use Rattle.schedule_text.specs.schedule_model.Crashing.{IsArmed, Deed, isnt_armed}
+use Rattle.schedule_text.specs.schedule_model.Step.{IsTaskInForm}
+use Rattle.schedule_text.specs.schedule_model.Tasks.{command_of, number_of_task}
+use Rattle.schedule_text.specs.schedule_model.WorldStep.{stepped_into}
+use Rattle.schedule_text.specs.schedule_model.declared.Command.TheVariants.{Crash}
+use Rattle.schedule_text.specs.schedule_model.declared.CrashTask.{CrashTask}
+use Rattle.schedule_text.proofs.of_schedule_model.CrashFollows.{plain_step, deed_of}
 use Rattle.world_commands.specs.schedule_replies.declared.replies.Reply.{Reply}
 use Rattle.world_commands.specs.schedule_replies.Replies.{reply_value}
 use Rattle.clone_core.specs.journal_sides.Pairs.{read_banks}

@@ -15,14 +15,14 @@ use Rattle.mld_model.specs.Sound.{IsSound}
 use Rattle.mld_model.specs.StandsFor.{RunningWorld, StandsFor, LiveAt, AskingAt}
 use Rattle.mld_model.specs.World.{World, clone_at, numbered, message_at}
 use Rattle.mld_model.specs.declared.CloneState.TheVariants as states
-use Rattle.schedule_model.specs.Tasks.{command_of, number_of_task}
-use Rattle.schedule_model.specs.WorldStep.{IsUpdateOf, sent_message}
-use Rattle.schedule_model.specs.declared.Command.{Command}
-use Rattle.schedule_model.specs.declared.Command.TheVariants.{Add, Remove, Update, Deliver}
-use Rattle.schedule_model.specs.declared.CrashTask.{CrashTask}
-use Rattle.schedule_model.specs.declared.CrashTask.TheVariants as tasks
-use Rattle.schedule_model.proofs.FollowsLaws.{SentAs, sent_as}
-use Rattle.schedule_model.proofs.WorldLaws.{no_message}
+use Rattle.schedule_text.specs.schedule_model.Tasks.{command_of, number_of_task}
+use Rattle.schedule_text.specs.schedule_model.WorldStep.{IsUpdateOf, sent_message}
+use Rattle.schedule_text.specs.schedule_model.declared.Command.{Command}
+use Rattle.schedule_text.specs.schedule_model.declared.Command.TheVariants.{Add, Remove, Update, Deliver}
+use Rattle.schedule_text.specs.schedule_model.declared.CrashTask.{CrashTask}
+use Rattle.schedule_text.specs.schedule_model.declared.CrashTask.TheVariants as tasks
+use Rattle.schedule_text.proofs.of_schedule_model.FollowsLaws.{SentAs, sent_as}
+use Rattle.schedule_text.proofs.of_schedule_model.WorldLaws.{no_message}
 use Rattle.clone_core.specs.clone_parts.declared.answers.Done.TheVariants as done
 use Rattle.clone_core.specs.clone_parts.KeptSteps.{KeptStep, Created, Appended}
 use Rattle.clone_core.specs.Banked.{head_of, kept_as}

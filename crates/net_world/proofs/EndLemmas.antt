@@ -12,8 +12,8 @@ use Rattle.mld_model.specs.declared.CloneState.TheVariants as states
 use Rattle.mld_model.specs.StandsFor.{RunningWorld, StandsFor, CloneStandsFor, founded_running}
 use Rattle.mld_model.specs.Sound.{IsSound}
 use Rattle.mld_model.proofs.FoundedLaws.{founded_sound}
-use Rattle.schedule_model.specs.Schedule.{Setup, KeepsEachOnce}
-use Rattle.schedule_model.proofs.WorldLaws.{founded_stands}
+use Rattle.schedule_text.specs.schedule_model.Schedule.{Setup, KeepsEachOnce}
+use Rattle.schedule_text.proofs.of_schedule_model.WorldLaws.{founded_stands}
 use Rattle.clone_core.specs.Banked.{kept_as}
 use Rattle.net_world.specs.Founding.{IsOpenState, AreFounded, StandsFounded}
 use Rattle.world_commands.specs.WorldBanks.{BankedState, BankedWorld, in_memory, banks_of_state, memory_of, KeepsNoneNow, KeepsStored, BanksStandFor, AllBanksStandFor, IsBacked, StandsOnBanks}

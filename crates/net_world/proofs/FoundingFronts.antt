@@ -28,8 +28,8 @@ use Rattle.mld_model.specs.World.{World, clone_at, clone_count, founded}
 use Rattle.mld_model.specs.declared.CloneState.TheVariants as states
 use Rattle.mld_model.proofs.FoundingLaws.{founding_leads}
 use Rattle.mld_model.proofs.StandsForLaws.{live_at, absent_at}
-use Rattle.schedule_model.specs.Schedule.{Setup, KeepsEachOnce}
-use Rattle.schedule_model.proofs.WorldLaws.{founded_stands}
+use Rattle.schedule_text.specs.schedule_model.Schedule.{Setup, KeepsEachOnce}
+use Rattle.schedule_text.proofs.of_schedule_model.WorldLaws.{founded_stands}
 use Rattle.clone_core.specs.clone_parts.KeptSteps.{KeptStep, Created, Forked, ReadsSome, LeavesMade}
 use Rattle.clone_core.specs.Banked.{BankedAsker, BankedClone, head_of, kept_as}
 use Rattle.clone_core.specs.clone_parts.declared.faults.ReceiveFault.{ReceiveFault}

@@ -20,7 +20,7 @@ use Rattle.mld_ops.specs.declared.messages.Message.TheVariants as kinds
 use Rattle.clone_core.specs.Banked.{BankedClone}
 use Rattle.clone_core.specs.CloneClosing.{StaysOpen}
 use Rattle.clone_core.specs.Joining.{LocallyGives, AreGood, IsGiveFor}
-use Rattle.schedule_model.specs.Schedule.{Setup}
+use Rattle.schedule_text.specs.schedule_model.Schedule.{Setup}
 use Rattle.net_world.specs.Founding.{IsKeptSetup, GivesLeaf, IsOpenFirst, AreFounded, IsFoundedTo, AreFoundedTo, IsAbsentAt, TakesHalf, HasGiver}
 use Rattle.world_commands.specs.States.{HasState, Becomes, IsNewAsker}
 use Rattle.world_commands.specs.WorldBanks.{BankedState, in_memory}

@@ -14,10 +14,10 @@ use Rattle.mld_model.specs.Sound.{IsSound}
 use Rattle.mld_model.specs.World.{World, clone_at}
 use Rattle.mld_model.specs.declared.CloneState.TheVariants as states
 use Rattle.mld_model.proofs.StandsForLaws.{live_at, asking_at}
-use Rattle.schedule_model.specs.Step.{number_of_clone}
-use Rattle.schedule_model.specs.Tasks.{command_of, command_done, number_of_task}
-use Rattle.schedule_model.specs.declared.Command.{Command}
-use Rattle.schedule_model.specs.declared.CrashTask.{CrashTask}
+use Rattle.schedule_text.specs.schedule_model.Step.{number_of_clone}
+use Rattle.schedule_text.specs.schedule_model.Tasks.{command_of, command_done, number_of_task}
+use Rattle.schedule_text.specs.schedule_model.declared.Command.{Command}
+use Rattle.schedule_text.specs.schedule_model.declared.CrashTask.{CrashTask}
 use Rattle.world_commands.specs.schedule_replies.declared.replies.Reply.{Reply}
 use Rattle.clone_core.specs.clone_parts.KeptSteps.{KeptStep, Created, ReadsSome, LeavesSome}
 use Rattle.clone_core.specs.Banked.{head_of, kept_as}

@@ -16,21 +16,21 @@ use Rattle.mld_model.specs.StandsFor.{LiveAt}
 use Rattle.mld_model.specs.World.{World, clone_at, clone_count}
 use Rattle.mld_model.specs.declared.CloneState.TheVariants as states
 use Rattle.mld_model.proofs.StandsForLaws.{live_at, absent_at, asking_at}
-use Rattle.schedule_model.specs.declared.Command.{Command}
-use Rattle.schedule_model.specs.declared.Command.TheVariants.{Add, Remove, Update, Deliver, Show, Query, Compare, Join, Ask, Compact, Truncate, Stop, Open, Crash}
-use Rattle.schedule_model.specs.declared.CrashTask.{CrashTask}
-use Rattle.schedule_model.specs.Schedule.{Setup}
-use Rattle.schedule_model.specs.Crashing.{Deed, Crashes, isnt_armed, is_caught, isnt_caught}
-use Rattle.schedule_model.specs.DurableSteps.{LeadsDurably}
-use Rattle.schedule_model.specs.PlainStep.{PlainStep}
-use Rattle.schedule_model.specs.Step.{HasCloneNumbers, IsCommandInForm, Step, number_of_clone}
-use Rattle.schedule_model.specs.Tasks.{command_of, command_done, number_of_task}
-use Rattle.schedule_model.proofs.ChangesLaws.{plain_changes, step_keeps_domain, step_keeps_others, kept_still_stands}
-use Rattle.schedule_model.proofs.CrashedDurable.{durable_steps_lead}
-use Rattle.schedule_model.proofs.CrashedSteps.{task_number_is}
-use Rattle.schedule_model.proofs.DurableLaws.{plain_leads, plain_list_once}
-use Rattle.schedule_model.proofs.ScheduleLaws.{HasPlanInForm, task_has_plan}
-use Rattle.schedule_model.proofs.StepLaws.{plain_once}
+use Rattle.schedule_text.specs.schedule_model.declared.Command.{Command}
+use Rattle.schedule_text.specs.schedule_model.declared.Command.TheVariants.{Add, Remove, Update, Deliver, Show, Query, Compare, Join, Ask, Compact, Truncate, Stop, Open, Crash}
+use Rattle.schedule_text.specs.schedule_model.declared.CrashTask.{CrashTask}
+use Rattle.schedule_text.specs.schedule_model.Schedule.{Setup}
+use Rattle.schedule_text.specs.schedule_model.Crashing.{Deed, Crashes, isnt_armed, is_caught, isnt_caught}
+use Rattle.schedule_text.specs.schedule_model.DurableSteps.{LeadsDurably}
+use Rattle.schedule_text.specs.schedule_model.PlainStep.{PlainStep}
+use Rattle.schedule_text.specs.schedule_model.Step.{HasCloneNumbers, IsCommandInForm, Step, number_of_clone}
+use Rattle.schedule_text.specs.schedule_model.Tasks.{command_of, command_done, number_of_task}
+use Rattle.schedule_text.proofs.of_schedule_model.ChangesLaws.{plain_changes, step_keeps_domain, step_keeps_others, kept_still_stands}
+use Rattle.schedule_text.proofs.of_schedule_model.CrashedDurable.{durable_steps_lead}
+use Rattle.schedule_text.proofs.of_schedule_model.CrashedSteps.{task_number_is}
+use Rattle.schedule_text.proofs.of_schedule_model.DurableLaws.{plain_leads, plain_list_once}
+use Rattle.schedule_text.proofs.of_schedule_model.ScheduleLaws.{HasPlanInForm, task_has_plan}
+use Rattle.schedule_text.proofs.of_schedule_model.StepLaws.{plain_once}
 use Rattle.world_commands.specs.crash_laws.CarriedSteps.{Owner, owner_at, stored_in, StandsRead, StandsSome}
 use Rattle.world_commands.specs.crash_laws.CrashLines.{ImageStands}
 use Rattle.world_commands.proofs.of_crash_laws.Images.{stands_nothing, image_live}

@@ -2,7 +2,7 @@
 use Rattle.std.proofs.Common.{◌≡◌, ℕ, ◌+◌, List, Option, Result, Ok, Err, IfOk, OnOk, sym, ap, subst, map}
 use Rattle.mld_io.specs.Arm.{Meter}
 use Rattle.mld_io.specs.Disk.{Log}
-use Rattle.schedule_model.specs.declared.Command.{Command}
+use Rattle.schedule_text.specs.schedule_model.declared.Command.{Command}
 use Rattle.world_commands.specs.declared.parts.Parts.{Parts}
 use Rattle.world_commands.specs.schedule_replies.declared.replies.Reply.{Reply as CodeReply}
 use Rattle.world_commands.specs.WorldParts.{running_of, KeepsDomain}
@@ -11,8 +11,8 @@ use Rattle.world_commands.specs.WorldBanks.{BankedWorld, banks_of_state, banks_o
 use Rattle.world_commands.specs.OneCall.{UsesBanksOf}
 use Rattle.world_commands.specs.Worlds.{IsStanding, FollowsOnBanks, Stepped}
 use Rattle.mld_io.specs.declared.banks.Leave.{Leave}
-use Rattle.schedule_model.specs.declared.Command.TheVariants.{Crash}
-use Rattle.schedule_model.specs.declared.CrashTask.{CrashTask}
+use Rattle.schedule_text.specs.schedule_model.declared.Command.TheVariants.{Crash}
+use Rattle.schedule_text.specs.schedule_model.declared.CrashTask.{CrashTask}
 use Rattle.world_commands.specs.declared.faults.WorldFault.{WorldFault}
 use Rattle.world_commands.specs.WorldParts.{Does}
 use Rattle.net_world.specs.Commands.{Answered, TellsReply, TellsCrash}

@@ -2,8 +2,8 @@
 use Rattle.std.specs.Prelude.{◌≡◌, ℕ, ◌+◌, List, ◌++◌, Option, Result, Ok, Err}
 use Rattle.mld_io.specs.Disk.{Log}
 use Rattle.mld_model.specs.Reply as model
-use Rattle.schedule_model.specs.declared.Command.{Command}
-use Rattle.schedule_model.specs.ReplyText.{reply_text}
+use Rattle.schedule_text.specs.schedule_model.declared.Command.{Command}
+use Rattle.schedule_text.specs.schedule_model.ReplyText.{reply_text}
 use Rattle.world_commands.specs.schedule_replies.Replies.{reply_value}
 use Rattle.world_commands.specs.schedule_replies.declared.replies.Reply.{Reply}
 use Rattle.world_commands.specs.declared.faults.WorldFault.{WorldFault}

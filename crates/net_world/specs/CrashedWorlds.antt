@@ -7,10 +7,10 @@ use Rattle.mld_ops.specs.declared.messages.Message.{Message}
 use Rattle.jrql_ast.specs.Templates.{insertion_of, deletion_of}
 use Rattle.mld_model.specs.Reply as model
 use Rattle.mld_model.specs.declared.CloneState.TheVariants as states
-use Rattle.schedule_model.specs.declared.Command.TheVariants as commands
-use Rattle.schedule_model.specs.declared.CrashTask.{CrashTask}
-use Rattle.schedule_model.specs.declared.CrashTask.TheVariants as tasks
-use Rattle.schedule_model.specs.Tasks.{IsToOpen}
+use Rattle.schedule_text.specs.schedule_model.declared.Command.TheVariants as commands
+use Rattle.schedule_text.specs.schedule_model.declared.CrashTask.{CrashTask}
+use Rattle.schedule_text.specs.schedule_model.declared.CrashTask.TheVariants as tasks
+use Rattle.schedule_text.specs.schedule_model.Tasks.{IsToOpen}
 use Rattle.world_commands.specs.schedule_replies.declared.replies.Reply.{Reply}
 use Rattle.world_commands.specs.schedule_replies.Replies.{reply_value}
 use Rattle.world_commands.specs.declared.faults.WorldFault.{WorldFault}

@@ -17,8 +17,8 @@ use Rattle.mld_model.specs.World.{World, clone_count}
 use Rattle.mld_model.specs.declared.CloneState.TheVariants as states
 use Rattle.clone_core.specs.Banked.{BankedAsker, BankedClone}
 use Rattle.clone_core.specs.CloneClosing.{banks_of_made, StaysOpen}
-use Rattle.schedule_model.specs.Schedule.{Setup}
-use Rattle.schedule_model.specs.Runs.{IsFoundedBy}
+use Rattle.schedule_text.specs.schedule_model.Schedule.{Setup}
+use Rattle.schedule_text.specs.schedule_model.Runs.{IsFoundedBy}
 use Rattle.tree_clock.specs.Lists.{Has, IsAscending}
 use Rattle.world_commands.specs.declared.faults.WorldFault.{WorldFault}
 use Rattle.world_commands.specs.declared.faults.WorldFault.TheVariants as faults

@@ -10,8 +10,8 @@ use Rattle.mld_model.specs.FoundingSteps.{StepAt, founding_steps, steps_at}
 use Rattle.mld_model.specs.Local.{LocallyForks, joined_clone}
 use Rattle.mld_model.specs.World.{World, founded}
 use Rattle.mld_model.specs.declared.CloneState.TheVariants as states
-use Rattle.schedule_model.specs.Schedule.{Setup}
-use Rattle.schedule_model.specs.Runs.{IsFoundedBy}
+use Rattle.schedule_text.specs.schedule_model.Schedule.{Setup}
+use Rattle.schedule_text.specs.schedule_model.Runs.{IsFoundedBy}
 use Rattle.clone_core.specs.clone_parts.KeptSteps.{Forked, LeavesMade}
 use Rattle.clone_core.specs.Banked.{BankedAsker, BankedClone, head_of}
 use Rattle.clone_core.specs.CloneClosing.{StaysOpen}

@@ -4,10 +4,10 @@ use Rattle.mld_io.specs.Disk.{Log, Sides, MayLeave, LeavesOnly}
 use Rattle.mld_model.specs.Clone.{kept_of}
 use Rattle.mld_model.specs.Sound.{IsSound}
 use Rattle.mld_model.specs.World.{World, clone_at}
-use Rattle.schedule_model.specs.Crashing.{Deed}
-use Rattle.schedule_model.specs.Step.{number_of_clone}
-use Rattle.schedule_model.specs.Tasks.{command_done}
-use Rattle.schedule_model.specs.declared.Command.{Command}
+use Rattle.schedule_text.specs.schedule_model.Crashing.{Deed}
+use Rattle.schedule_text.specs.schedule_model.Step.{number_of_clone}
+use Rattle.schedule_text.specs.schedule_model.Tasks.{command_done}
+use Rattle.schedule_text.specs.schedule_model.declared.Command.{Command}
 use Rattle.world_commands.specs.crash_laws.CarriedSteps.{owner_at, StandsSome}
 use Rattle.world_commands.specs.declared.parts.Parts.{Parts}
 use Rattle.world_commands.specs.WorldBanks.{BankedWorld, banks_of, banks_of_state, StandsOnBanks}

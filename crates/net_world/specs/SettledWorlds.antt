@@ -6,8 +6,8 @@ use Rattle.mld_model.specs.Reply.{Reply}
 use Rattle.mld_model.specs.Sound.{IsSound}
 use Rattle.mld_model.specs.World.{World}
 use Rattle.mld_model.specs.declared.CloneState.TheVariants as states
-use Rattle.schedule_model.specs.Step.{Step}
-use Rattle.schedule_model.specs.declared.Command.{Command}
+use Rattle.schedule_text.specs.schedule_model.Step.{Step}
+use Rattle.schedule_text.specs.schedule_model.declared.Command.{Command}
 use Rattle.clone_core.specs.Banked.{BankedClone}
 use Rattle.world_commands.specs.crash_laws.CrashLines.{ImageStands}
 use Rattle.world_commands.specs.States.{HasState}

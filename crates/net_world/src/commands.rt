@@ -2,17 +2,17 @@
 ghost use Rattle.std.specs.Prelude.{◌≡◌, map, vec_len, IfErr, OnOk, OnErr};
 ghost use Rattle.mld_model.specs.Local.{IsNamed};
 ghost use Rattle.mld_model.specs.World.{clone_count};
-ghost use Rattle.schedule_model.specs.Step.{HasCloneNumbers, IsCommandInForm, number_of_clone};
+ghost use Rattle.schedule_text.specs.schedule_model.Step.{HasCloneNumbers, IsCommandInForm, number_of_clone};
 ghost use Rattle.net_world.specs.Commands.{Answered, TellsReply, FailsToTell, TellsCrash};
 ghost use Rattle.net_world.specs.CrashedWorlds.{AreUnarmed};
 ghost use Rattle.net_world.specs.LeftBehind.{LeavesBanksOf};
-ghost use Rattle.schedule_model.specs.Tasks.{command_done};
+ghost use Rattle.schedule_text.specs.schedule_model.Tasks.{command_done};
 ghost use Rattle.world_commands.specs.WorldBanks.{banks_of_state};
 ghost use Rattle.world_commands.specs.WorldParts.{HasStepLeft, KeepsDomain, HasFaultsOfParts};
 
 use crate::crash::{Crashed, crash};
 use mld_io::{Banks, CrashBanks};
-use schedule_model::Command;
+use schedule_text::schedule_model::Command;
 use std::alloc::Global;
 use std::thread::Threads;
 use world_commands::ask::ask;

@@ -2,8 +2,8 @@
 //! leaves.
 ghost use Rattle.std.specs.Prelude.{◌≡◌, ◌↔◌, ◌<◌, vec_len, map, IsTrue, IsOk, IfOk};
 ghost use Rattle.mld_model.specs.Local.{IsNamed};
-ghost use Rattle.schedule_model.specs.Step.{IsTaskInForm};
-ghost use Rattle.schedule_model.specs.Tasks.{command_of, number_of_task, IsToOpen};
+ghost use Rattle.schedule_text.specs.schedule_model.Step.{IsTaskInForm};
+ghost use Rattle.schedule_text.specs.schedule_model.Tasks.{command_of, number_of_task, IsToOpen};
 ghost use Rattle.world_commands.specs.LeftBanks.{LeavesAt, IsSilent};
 ghost use Rattle.world_commands.specs.WorldBanks.{banks_of_state};
 ghost use Rattle.world_commands.specs.WorldParts.{HasStepLeft, KeepsDomain, HasFaultsOfParts, Does};
@@ -12,7 +12,7 @@ ghost use Rattle.net_world.specs.CrashedWorlds.{AreUnarmed, IsArmedIn, IsArmedAs
 
 use mld_io::{Banks, CrashBanks, Leave};
 use mld_model::CloneState;
-use schedule_model::CrashTask;
+use schedule_text::schedule_model::CrashTask;
 use std::alloc::Global;
 use std::thread::Threads;
 use world_commands::changes::{add, remove, update};

@@ -9,7 +9,7 @@ mod summaries;
 mod summarizing;
 mod worlds;
 
-pub use schedule_model::Command;
+pub use schedule_text::schedule_model::Command;
 pub use summaries::{CloneSummary, State, Summary, summary_of_live, summary_of_state};
 pub use world_commands;
 pub use world_commands::{WorldFault, crash_laws, schedule_replies};

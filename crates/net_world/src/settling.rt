@@ -1,12 +1,12 @@
 //! What live clones say of their banks between two commands.
 ghost use Rattle.std.specs.Prelude.{◌≡◌, ◌<◌, ◌≤◌, ℕ, length};
-ghost use Rattle.schedule_model.specs.Step.{number_of_clone};
+ghost use Rattle.schedule_text.specs.schedule_model.Step.{number_of_clone};
 ghost use Rattle.net_world.specs.SettledWorlds.{LiveKept};
 
 use crate::crash::number_of as number_of_task;
 use mld_io::{Banks, CrashBanks};
 use mld_model::CloneState;
-use schedule_model::Command;
+use schedule_text::schedule_model::Command;
 use world_commands::RunningClone;
 
 /// The number of the clone that a command is done at.

@@ -8,8 +8,8 @@ use crate::summarizing::summarize;
 use clone_core::journal_store::Blank;
 use mld_io::{Banks, CrashBanks};
 use mld_ops::kept_properties;
-use schedule_model::Command;
 use schedule_text::Setup;
+use schedule_text::schedule_model::Command;
 use std::alloc::{AllocError, Global};
 use std::marker::Model;
 use std::thread::Threads;
@@ -39,12 +39,12 @@ impl<B: CrashBanks> Model for World<B> {
 
 impl<B: CrashBanks> World<B> {
     ghost use Rattle.std.specs.Prelude.{◌≡◌, ◌+◌, ◌<◌, vec_len, IsTrue, IfOk, IfErr, OnOk, OnErr};
-    ghost use Rattle.schedule_model.specs.WorldStep.{step_limit};
+    ghost use Rattle.schedule_text.specs.schedule_model.WorldStep.{step_limit};
     ghost use Rattle.text_rules.specs.Domain.{is_domain};
     ghost use Rattle.mld_model.specs.World.{World as ModelWorld, clone_count};
     ghost use Rattle.world_commands.specs.WorldBanks.{StandsOnBanks, AllBanksStandFor, banks_of, MetersGoOn, HadNoFaults, RefusesFounding, HasFaultsFor, OthersStay, memory_of};
-    ghost use Rattle.schedule_model.specs.Schedule.{IsSetup};
-    ghost use Rattle.schedule_model.specs.Step.{HasCloneNumbers, IsCommandInForm, number_of_clone};
+    ghost use Rattle.schedule_text.specs.schedule_model.Schedule.{IsSetup};
+    ghost use Rattle.schedule_text.specs.schedule_model.Step.{HasCloneNumbers, IsCommandInForm, number_of_clone};
     ghost use Rattle.schedule_text.specs.ReadLines.{setup_of};
     ghost use Rattle.net_world.specs.Founding.{StandsFounded};
     ghost use Rattle.net_world.specs.FoundingLeft.{LeavesFounded};

@@ -1,3 +1,4 @@
+pub use Rattle.shell_session.proofs.of_schedule_model as of_schedule_model
 pub use Rattle.shell_session.proofs.of_journal_sides as of_journal_sides
 pub use Rattle.shell_session.proofs.of_journal_store as of_journal_store
 pub use Rattle.shell_session.proofs.of_clone_parts as of_clone_parts

@@ -1,6 +1,6 @@
 -- A line asks for one thing.
 use Rattle.std.proofs.Common.{◌≡◌, ◌≢◌, ℕ, List, ◌∷◌, codes, Some, refl, subst, ap, drop}
-use Rattle.schedule_model.proofs.LackingLaws.{apart}
+use Rattle.shell_session.proofs.of_schedule_model.LackingLaws.{apart}
 use Rattle.shell_session.specs.declared.commands.ShellCommand.{ShellCommand}
 use Rattle.shell_session.specs.declared.commands.ShellCommand.TheVariants.{Open, Create, Add, Remove, Update, Query, Show, Compact, Truncate, Stop, Skipped}
 use Rattle.shell_session.specs.ShellLaws.{IsSameShell, OneShellCommand}

@@ -1,3 +1,4 @@
+pub use Rattle.shell_session.specs.schedule_model as schedule_model
 pub use Rattle.shell_session.specs.journal_sides as journal_sides
 pub use Rattle.shell_session.specs.journal_store as journal_store
 pub use Rattle.shell_session.specs.clone_parts as clone_parts

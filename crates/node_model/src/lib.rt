@@ -21,4 +21,4 @@ pub use request_laws::one_request;
 pub use requests::{Request, read_request};
 pub use run_laws::node_steps_lead;
 pub use shell_session;
-pub use shell_session::{clone_core, clone_parts, journal_sides, journal_store};
+pub use shell_session::{clone_core, clone_parts, journal_sides, journal_store, schedule_model};

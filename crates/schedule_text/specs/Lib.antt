@@ -1,1 +1,2 @@
+pub use Rattle.schedule_model.specs as schedule_model
 pub mod ReadLines

@@ -14,6 +14,7 @@ pub use commands::{read_command, read_triple_bytes};
 pub use numbers::read_number;
 pub use queries::read_query_text;
 pub use refusals::LineRefusal;
+pub use schedule_model;
 pub use schedule_model::Command;
 pub use setups::{Setup, SetupLine, read_domain, read_setup};
 pub use updates::read_update_text;

@@ -1,3 +1,4 @@
+pub use Rattle.schedule_text.proofs.of_schedule_model as of_schedule_model
 pub use Rattle.crash_laws.proofs.of_journal_sides as of_journal_sides
 pub use Rattle.crash_laws.proofs.of_journal_store as of_journal_store
 pub use Rattle.crash_laws.proofs.of_clone_parts as of_clone_parts
@@ -13,4 +14,5 @@ pub mod MeterLaws
 pub mod LiveLaws
 mod ShutLaws
 mod LineLaws
+pub mod CompleteLines
 mod Answered

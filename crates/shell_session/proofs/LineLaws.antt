@@ -5,7 +5,7 @@ use Rattle.mld_io.specs.Disk.{Log}
 use Rattle.crash_laws.specs.journal_store.Closing.{StaysTold}
 use Rattle.mld_model.specs.Local.{LocalClone}
 use Rattle.mld_model.specs.Reply.{Stopped}
-use Rattle.schedule_model.specs.Schedule.{IsNothing}
+use Rattle.schedule_text.specs.schedule_model.Schedule.{IsNothing}
 use Rattle.crash_laws.specs.clone_parts.KeptSteps.{KeptStep}
 use Rattle.crash_laws.specs.clone_core.Banked.{BankedClone, KeepsClone}
 use Rattle.shell_session.specs.declared.commands.ShellCommand.{ShellCommand}

@@ -25,6 +25,7 @@ meters_of calls before now failed told metered = record {
   later = metered.later;
   real_later = metered.real_later;
   unarmed = λ is. lowers_unarmed calls before.arm now.arm is metered.lowered;
+  failed = λ tell. metered.failed (failed tell);
   cause = λ tell is. own_fault calls before now metered.lowered is (metered.cause (failed tell));
   quiet = λ none. metered.quiet (λ fault. none (told fault));
 }
@@ -35,6 +36,7 @@ meters_none before now same none = record {
   later = omega (arith, ap (λ (m : Meter). m.faults) same);
   real_later = omega (arith, ap (λ (m : Meter). m.real_faults) same);
   unarmed = λ is. ap (λ (m : Meter). m.arm) same ∙ is;
+  failed = λ tell. absurd (none tell);
   cause = λ tell is. absurd (none tell);
   quiet = λ told. (ap (λ (m : Meter). m.faults) same, ap (λ (m : Meter). m.real_faults) same);
 }
@@ -45,6 +47,7 @@ meters_as before now into from meters = record {
   later = meters.later;
   real_later = meters.real_later;
   unarmed = meters.unarmed;
+  failed = λ tell. meters.failed (into tell);
   cause = λ tell is. meters.cause (into tell) is;
   quiet = λ none. meters.quiet (λ one. none (from one));
 }
@@ -57,6 +60,7 @@ meters_then before mid now fine first second =
       later = omega (arith, quiet.0, second.later);
       real_later = omega (arith, quiet.1, second.real_later);
       unarmed = λ is. second.unarmed (first.unarmed is);
+      failed = λ tell. second.failed tell ∙ ap counted quiet.0;
       cause = λ tell is. second.cause tell (first.unarmed is) ∙ ap counted quiet.1;
       quiet = λ none. let q = second.quiet none in (q.0 ∙ quiet.0, q.1 ∙ quiet.1);
     }

@@ -6,10 +6,10 @@ use Rattle.rdf_terms.proofs.Complete.{one_spelled}
 use Rattle.rdf_terms.specs.Grammar.{SpellsTriple}
 use Rattle.rdf_terms.specs.declared.terms.Triple.{Triple}
 use Rattle.jrql_ast.specs.declared.plans.UpdatePlan.{UpdatePlan}
-use Rattle.schedule_model.specs.jrql_patterns.declared.queries.ReadQuery.{ReadQuery}
-use Rattle.schedule_model.specs.Characters.{space, hash_mark}
-use Rattle.schedule_model.specs.Schedule.{IsNothing, empty, comment}
-use Rattle.schedule_model.proofs.LackingLaws.{apart}
+use Rattle.schedule_text.specs.schedule_model.jrql_patterns.declared.queries.ReadQuery.{ReadQuery}
+use Rattle.schedule_text.specs.schedule_model.Characters.{space, hash_mark}
+use Rattle.schedule_text.specs.schedule_model.Schedule.{IsNothing, empty, comment}
+use Rattle.schedule_text.proofs.of_schedule_model.LackingLaws.{apart}
 use Rattle.schedule_text.specs.ReadLines.{IsTripleText, IsUpdateText, IsQueryText}
 use Rattle.shell_session.specs.declared.commands.ShellCommand.{ShellCommand}
 use Rattle.shell_session.specs.declared.commands.ShellCommand.TheVariants.{Open, Create, Add, Remove, Update, Query, Show, Compact, Truncate, Stop, Skipped}

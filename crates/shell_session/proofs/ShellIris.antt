@@ -2,9 +2,9 @@
 use Rattle.std.proofs.Common.{◌≡◌, ℕ, suc, ◌+◌, ◌<◌, ◌≤◌, List, [], ◌∷◌, ◌++◌, length, codes, IsTrue, Option, Some, None, refl, sym, ◌∙◌, ap, subst, arith}
 use Rattle.std.proofs.lemmas.List.{append-nil, append_assoc, length-append}
 use Rattle.text_rules.specs.Domain.{is_domain}
-use Rattle.schedule_model.specs.Characters.{space}
-use Rattle.schedule_model.proofs.LackingLaws.{Lacks, one_split}
-use Rattle.schedule_model.proofs.ScheduleLaws.{domain_lacks, one_property}
+use Rattle.schedule_text.specs.schedule_model.Characters.{space}
+use Rattle.schedule_text.proofs.of_schedule_model.LackingLaws.{Lacks, one_split}
+use Rattle.schedule_text.proofs.of_schedule_model.ScheduleLaws.{domain_lacks, one_property}
 use Rattle.schedule_text.proofs.LinesText.{has_space}
 use Rattle.shell_session.specs.ReadShell.{tail_of, IsFirstWord}
 use Rattle.shell_session.specs.ShellLines.{IsIdWord, IsIriWord, SpellsIris, IsCreation, property_limit}

@@ -2,7 +2,7 @@
 use Rattle.std.proofs.Common.{◌≡◌, ◌≢◌, ℕ, ◌<◌, List, [], ◌∷◌, ◌++◌, ◌↔◌, length, get_or, IsTrue, nat_eq, sym, ◌∙◌, ap, inl, inr, arith}
 use Rattle.std.proofs.lemmas.Bool.{eqb-true, eq-eqb}
 use Rattle.std.proofs.lemmas.List.{append-nil, append_cancel_left}
-use Rattle.schedule_model.specs.Characters.{space}
+use Rattle.schedule_text.specs.schedule_model.Characters.{space}
 use Rattle.shell_session.specs.ShellLines.{HasFirstWord}
 
 -- a line that doesn't begin with the word has another first word

@@ -3,10 +3,10 @@ use Rattle.std.specs.Prelude.{◌≡◌, ◌⊎◌, ℕ, List, [], ◌++◌, Opt
 use Rattle.mld_io.specs.Arm.{Meter}
 use Rattle.mld_io.specs.Disk.{Log}
 use Rattle.mld_ops.specs.Present.{present}
-use Rattle.schedule_model.specs.jrql_patterns.declared.queries.ReadQuery.{ReadQuery}
+use Rattle.schedule_text.specs.schedule_model.jrql_patterns.declared.queries.ReadQuery.{ReadQuery}
 use Rattle.mld_model.specs.Local.{LocalClone}
 use Rattle.mld_model.specs.Reply.{Reply}
-use Rattle.schedule_model.specs.Querying.{AnswersQuery}
+use Rattle.schedule_text.specs.schedule_model.Querying.{AnswersQuery}
 use Rattle.crash_laws.specs.clone_parts.KeptSteps.{KeptStep}
 use Rattle.crash_laws.specs.clone_core.Banked.{BankedClone}
 use Rattle.crash_laws.specs.clone_core.DurableCalls.{LeavesFronts}

@@ -1,9 +1,9 @@
 -- What a line of the shell was read as. `read_shell` cites it.
 use Rattle.std.specs.Prelude.{◌≡◌, ℕ, List, [], ◌∷◌, ◌++◌, codes, Option, None, Some}
 use Rattle.jrql_ast.specs.InForm.{IsPlanInForm, IsQueryInForm}
-use Rattle.schedule_model.specs.Characters.{space}
-use Rattle.schedule_model.specs.Lacking.{Lacks}
-use Rattle.schedule_model.specs.Schedule.{IsNothing}
+use Rattle.schedule_text.specs.schedule_model.Characters.{space}
+use Rattle.schedule_text.specs.schedule_model.Lacking.{Lacks}
+use Rattle.schedule_text.specs.schedule_model.Schedule.{IsNothing}
 use Rattle.shell_session.specs.declared.commands.ShellCommand.{ShellCommand}
 use Rattle.shell_session.specs.declared.commands.ShellCommand.TheVariants.{Open, Create, Update, Query, Show, Compact, Stop}
 use Rattle.shell_session.specs.ShellLines.{SpellsShell, IsCreation}

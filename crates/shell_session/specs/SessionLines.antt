@@ -90,12 +90,13 @@ abbrev pub FailsOnDevice : {B : Type 0} → Result (Session B) (SessionFault × 
 FailsOnDevice (Ok next) = ⊥
 FailsOnDevice (Err refused) = refused.0 ≡ Device
 
--- What a line does to the counts of faults, and to a device that isn't armed: a fault of the device is told where one of its own was counted,
--- and only there.
+-- What a line does to the counts of faults: a fault of the device is told just where one was counted, whether it is armed or not, and where it
+-- isn't that is one of its own. A device that isn't armed stays so.
 pub record Meters (before now : Meter) (Failed : Type 0) : Type 0 where
   pub later : before.faults ≤ now.faults
   pub real_later : before.real_faults ≤ now.real_faults
   pub unarmed : before.arm ≡ Unarmed → now.arm ≡ Unarmed
+  pub failed : Failed → now.faults ≡ counted before.faults
   pub cause : Failed → before.arm ≡ Unarmed → now.real_faults ≡ counted before.real_faults
   pub quiet : ¬ Failed → (now.faults ≡ before.faults) × (now.real_faults ≡ before.real_faults)
 

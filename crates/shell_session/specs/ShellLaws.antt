@@ -1,6 +1,6 @@
 -- The laws of the shell's lines. `one_shell_command` cites it.
 use Rattle.std.specs.Prelude.{◌≡◌, ℕ, List, Option}
-use Rattle.schedule_model.specs.Schedule.{IsNothing}
+use Rattle.schedule_text.specs.schedule_model.Schedule.{IsNothing}
 use Rattle.shell_session.specs.declared.commands.ShellCommand.{ShellCommand}
 use Rattle.shell_session.specs.declared.commands.ShellCommand.TheVariants.{Create}
 use Rattle.shell_session.specs.ShellLines.{SpellsShell}

@@ -5,8 +5,8 @@ use Rattle.std.specs.Fmt.{decimal}
 use Rattle.uuid.specs.Text.{parsed}
 use Rattle.text_rules.specs.Domain.{is_domain}
 use Rattle.rdf_terms.specs.Grammar.{IsIriText}
-use Rattle.schedule_model.specs.Characters.{space}
-use Rattle.schedule_model.specs.Lacking.{Lacks}
+use Rattle.schedule_text.specs.schedule_model.Characters.{space}
+use Rattle.schedule_text.specs.schedule_model.Lacking.{Lacks}
 use Rattle.schedule_text.specs.ReadLines.{IsTripleText, IsUpdateText, IsQueryText}
 use Rattle.shell_session.specs.declared.commands.ShellCommand.{ShellCommand}
 use Rattle.shell_session.specs.declared.commands.ShellCommand.TheVariants.{Open, Create, Add, Remove, Update, Query, Show, Compact, Truncate, Stop, Skipped}

@@ -6,8 +6,8 @@ use Rattle.mld_io.specs.declared.banks.Side.TheVariants.{A, B}
 use Rattle.tree_clock.specs.declared.dots.Dot.{Dot}
 use Rattle.tree_clock.specs.Dot.{dot_text}
 use Rattle.mld_model.specs.Reply.{Reply}
-use Rattle.schedule_model.specs.Characters.{line_end}
-use Rattle.schedule_model.specs.ReplyText.{reply_text}
+use Rattle.schedule_text.specs.schedule_model.Characters.{line_end}
+use Rattle.schedule_text.specs.schedule_model.ReplyText.{reply_text}
 
 pub data ShellReply : Type 0 where
   -- what a clone of a schedule replies too

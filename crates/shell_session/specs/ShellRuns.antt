@@ -1,6 +1,6 @@
 -- What a shell does with lines, one after another.
 use Rattle.std.specs.Prelude.{◌≡◌, ℕ, List, [], ◌∷◌, ◌++◌}
-use Rattle.schedule_model.specs.Schedule.{IsNothing}
+use Rattle.schedule_text.specs.schedule_model.Schedule.{IsNothing}
 use Rattle.crash_laws.specs.clone_parts.KeptSteps.{KeptStep}
 use Rattle.shell_session.specs.declared.commands.ShellCommand.{ShellCommand}
 use Rattle.shell_session.specs.ShellLines.{SpellsShell}

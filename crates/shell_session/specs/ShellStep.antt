@@ -13,7 +13,7 @@ use Rattle.jrql_eval.specs.PlanEffects.{HasTooMany}
 use Rattle.crash_laws.specs.journal_sides.Heads.{HeadValue}
 use Rattle.mld_model.specs.Local.{LocalClone, IsLocal, blank_clone, next_dot, LocallyCompacts, LocallyTruncates}
 use Rattle.mld_model.specs.Reply.{Reply, NoOperation, Single, TooMany, Shows, Kept, IsLive, Stopped, Opened}
-use Rattle.schedule_model.specs.Querying.{AnswersQuery}
+use Rattle.schedule_text.specs.schedule_model.Querying.{AnswersQuery}
 use Rattle.crash_laws.specs.clone_parts.KeptSteps.{KeptStep, Created, Appended, Swapped}
 use Rattle.crash_laws.specs.clone_parts.declared.answers.Done.TheVariants as done
 use Rattle.crash_laws.specs.clone_core.Banked.{head_of}

@@ -2,7 +2,7 @@
 
 use jrql_ast::UpdatePlan;
 use rdf_terms::{Iri, Triple};
-use schedule_model::jrql_patterns::ReadQuery;
+use schedule_text::schedule_model::jrql_patterns::ReadQuery;
 use text_rules::Text;
 use uuid::Uuid;
 

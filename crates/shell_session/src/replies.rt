@@ -1,7 +1,7 @@
 //! Replies of the shell, and their text: lines that end with LF, added at the end of an output.
 ghost use Rattle.std.specs.Prelude.{◌≡◌, ◌++◌, ◌∷◌, [], codes, OnOk, OnErr};
 ghost use Rattle.std.specs.Fmt.{decimal};
-ghost use Rattle.schedule_model.specs.Characters.{line_end};
+ghost use Rattle.schedule_text.specs.schedule_model.Characters.{line_end};
 ghost use Rattle.shell_session.specs.ShellReply.{shell_text, DidAt, FoundDamage};
 ghost use Rattle.shell_session.specs.SessionReplies.{shell_value};
 

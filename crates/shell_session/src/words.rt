@@ -1,7 +1,7 @@
 //! Words of the shell's lines.
 ghost use Rattle.std.specs.Prelude.{IsTrue, IfOk, ◌↔◌, option_map};
-ghost use Rattle.schedule_model.specs.Characters.{space};
-ghost use Rattle.schedule_model.specs.Lacking.{Lacks};
+ghost use Rattle.schedule_text.specs.schedule_model.Characters.{space};
+ghost use Rattle.schedule_text.specs.schedule_model.Lacking.{Lacks};
 ghost use Rattle.schedule_text.specs.ReadLines.{Finds};
 ghost use Rattle.shell_session.specs.ReadShell.{IsFirstWord};
 ghost use Rattle.shell_session.specs.ShellLines.{IsIdWord, IsIriWord, HasFirstWord, AsksForClone};

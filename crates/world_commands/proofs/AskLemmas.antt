@@ -8,9 +8,9 @@ use Rattle.mld_model.specs.declared.CloneState.TheVariants as states
 use Rattle.mld_model.specs.Reply.{Sent}
 use Rattle.mld_model.specs.Local.{LocalClone}
 use Rattle.mld_model.specs.StandsFor.{RunningClone, RunningWorld}
-use Rattle.schedule_model.specs.declared.Command.TheVariants.{Ask}
-use Rattle.schedule_model.specs.WorldStep.{IsMissingReply}
-use Rattle.schedule_model.proofs.AskLaws.{ask_follows, ask_missing}
+use Rattle.crash_laws.specs.schedule_model.declared.Command.TheVariants.{Ask}
+use Rattle.crash_laws.specs.schedule_model.WorldStep.{IsMissingReply}
+use Rattle.crash_laws.proofs.of_schedule_model.AskLaws.{ask_follows, ask_missing}
 use Rattle.crash_laws.specs.clone_core.Banked.{BankedClone}
 use Rattle.world_commands.specs.declared.faults.WorldFault.{WorldFault}
 use Rattle.world_commands.specs.declared.parts.Parts.{Parts}

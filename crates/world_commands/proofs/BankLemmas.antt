@@ -19,11 +19,11 @@ use Rattle.mld_model.specs.StandsFor.{StoredStandsFor, CloneStandsFor}
 use Rattle.mld_model.specs.World.{World, Message, clone_at, message_at}
 use Rattle.crash_laws.specs.clone_core.Banked.{BankedClone}
 use Rattle.crash_laws.specs.clone_core.CloneClosing.{StaysOpen}
-use Rattle.schedule_model.specs.declared.Command.{Command}
-use Rattle.schedule_model.specs.declared.Command.TheVariants.{Add, Remove, Update, Deliver, Show, Query, Compare, Join, Ask, Compact, Truncate, Stop, Open, Crash}
-use Rattle.schedule_model.specs.Step.{Step, number_of_clone}
-use Rattle.schedule_model.specs.WorldStep.{Follows}
-use Rattle.schedule_model.proofs.ChangesLaws.{step_keeps_domain, step_keeps_others, kept_still_stands}
+use Rattle.crash_laws.specs.schedule_model.declared.Command.{Command}
+use Rattle.crash_laws.specs.schedule_model.declared.Command.TheVariants.{Add, Remove, Update, Deliver, Show, Query, Compare, Join, Ask, Compact, Truncate, Stop, Open, Crash}
+use Rattle.crash_laws.specs.schedule_model.Step.{Step, number_of_clone}
+use Rattle.crash_laws.specs.schedule_model.WorldStep.{Follows}
+use Rattle.crash_laws.proofs.of_schedule_model.ChangesLaws.{step_keeps_domain, step_keeps_others, kept_still_stands}
 use Rattle.world_commands.specs.declared.faults.WorldFault.{WorldFault}
 use Rattle.world_commands.specs.declared.faults.WorldFault.TheVariants as faults
 use Rattle.world_commands.specs.States.{HasState, Becomes}

@@ -16,11 +16,11 @@ use Rattle.mld_model.specs.Local.{LocalClone, next_dot, LocallyMakes}
 use Rattle.mld_model.specs.Sound.{IsSound}
 use Rattle.mld_model.specs.StandsFor.{RunningClone, RunningWorld, StandsFor}
 use Rattle.mld_model.specs.World.{World}
-use Rattle.schedule_model.specs.declared.Command.{Command}
-use Rattle.schedule_model.specs.declared.Command.TheVariants.{Add, Remove, Update}
-use Rattle.schedule_model.specs.Step.{Step}
-use Rattle.schedule_model.specs.WorldStep.{Follows, IsMissingReply, stepped}
-use Rattle.schedule_model.proofs.WorldLaws.{update_too_large, update_nothing, update_single, update_made, update_missing}
+use Rattle.crash_laws.specs.schedule_model.declared.Command.{Command}
+use Rattle.crash_laws.specs.schedule_model.declared.Command.TheVariants.{Add, Remove, Update}
+use Rattle.crash_laws.specs.schedule_model.Step.{Step}
+use Rattle.crash_laws.specs.schedule_model.WorldStep.{Follows, IsMissingReply, stepped}
+use Rattle.crash_laws.proofs.of_schedule_model.WorldLaws.{update_too_large, update_nothing, update_single, update_made, update_missing}
 use Rattle.crash_laws.specs.clone_core.Banked.{BankedClone}
 use Rattle.crash_laws.specs.clone_core.CloneClosing.{StaysOpen}
 use Rattle.world_commands.specs.declared.faults.WorldFault.{WorldFault}

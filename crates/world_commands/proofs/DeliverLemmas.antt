@@ -14,12 +14,12 @@ use Rattle.mld_model.specs.Local.{LocalClone}
 use Rattle.mld_model.specs.Sound.{IsSound}
 use Rattle.mld_model.specs.StandsFor.{RunningClone, RunningWorld, StandsFor}
 use Rattle.mld_model.proofs.StandsForLaws.{good_sent}
-use Rattle.schedule_model.specs.declared.Command.TheVariants.{Deliver}
-use Rattle.schedule_model.specs.WorldStep.{Follows, IsAwayReply, stepped_saying}
-use Rattle.schedule_model.proofs.AskLaws.{want_nothing, want_answered, want_snapshot}
-use Rattle.schedule_model.proofs.SnapshotLaws.{deliver_snapshot_known, deliver_merged, never_foreign_snapshot}
-use Rattle.schedule_model.proofs.WorldLaws.{stepped, stepped_with, sent_message, never_foreign, deliver_nothing, deliver_missing, deliver_known, deliver_taken, deliver_held, deliver_held_already, deliver_full}
-use Rattle.schedule_model.proofs.JoinLaws.{deliver_ask_own, deliver_deep, deliver_ask, deliver_give_live, deliver_joined, deliver_asking}
+use Rattle.crash_laws.specs.schedule_model.declared.Command.TheVariants.{Deliver}
+use Rattle.crash_laws.specs.schedule_model.WorldStep.{Follows, IsAwayReply, stepped_saying}
+use Rattle.crash_laws.proofs.of_schedule_model.AskLaws.{want_nothing, want_answered, want_snapshot}
+use Rattle.crash_laws.proofs.of_schedule_model.SnapshotLaws.{deliver_snapshot_known, deliver_merged, never_foreign_snapshot}
+use Rattle.crash_laws.proofs.of_schedule_model.WorldLaws.{stepped, stepped_with, sent_message, never_foreign, deliver_nothing, deliver_missing, deliver_known, deliver_taken, deliver_held, deliver_held_already, deliver_full}
+use Rattle.crash_laws.proofs.of_schedule_model.JoinLaws.{deliver_ask_own, deliver_deep, deliver_ask, deliver_give_live, deliver_joined, deliver_asking}
 use Rattle.mld_io.specs.Arm.{Meter, Metered}
 use Rattle.mld_io.specs.Disk.{Log}
 use Rattle.crash_laws.specs.clone_core.Banked.{BankedAsker, BankedClone}

@@ -11,9 +11,9 @@ use Rattle.mld_model.specs.Reply.{Reply, Sent, IsLive, IsDown}
 use Rattle.mld_model.specs.Local.{LocalAsker, IsNamed}
 use Rattle.mld_model.specs.StandsFor.{RunningClone, RunningWorld, id_of}
 use Rattle.mld_model.proofs.StandsForLaws.{asking_at}
-use Rattle.schedule_model.specs.declared.Command.TheVariants.{Join}
-use Rattle.schedule_model.proofs.WorldLaws.{stepped}
-use Rattle.schedule_model.proofs.JoinLaws.{join_absent, join_again, join_live, join_down}
+use Rattle.crash_laws.specs.schedule_model.declared.Command.TheVariants.{Join}
+use Rattle.crash_laws.proofs.of_schedule_model.WorldLaws.{stepped}
+use Rattle.crash_laws.proofs.of_schedule_model.JoinLaws.{join_absent, join_again, join_live, join_down}
 use Rattle.crash_laws.specs.clone_core.Banked.{BankedAsker}
 use Rattle.world_commands.specs.declared.faults.WorldFault.{WorldFault}
 use Rattle.world_commands.specs.declared.faults.WorldFault.TheVariants as faults

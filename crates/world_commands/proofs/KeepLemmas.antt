@@ -11,10 +11,10 @@ use Rattle.mld_model.specs.Local.{LocalClone, LeadsTo, LocallyCompacts, LocallyT
 use Rattle.mld_model.specs.Sound.{IsSound}
 use Rattle.mld_model.specs.StandsFor.{RunningClone, RunningWorld, StandsFor}
 use Rattle.mld_model.specs.World.{World}
-use Rattle.schedule_model.specs.Step.{number_of_clone}
-use Rattle.schedule_model.specs.WorldStep.{Follows, IsMissingReply, stepped, stepped_with}
-use Rattle.schedule_model.proofs.AskLaws.{compact_follows, compact_missing}
-use Rattle.schedule_model.proofs.SnapshotLaws.{truncate_follows, truncate_missing}
+use Rattle.crash_laws.specs.schedule_model.Step.{number_of_clone}
+use Rattle.crash_laws.specs.schedule_model.WorldStep.{Follows, IsMissingReply, stepped, stepped_with}
+use Rattle.crash_laws.proofs.of_schedule_model.AskLaws.{compact_follows, compact_missing}
+use Rattle.crash_laws.proofs.of_schedule_model.SnapshotLaws.{truncate_follows, truncate_missing}
 use Rattle.schedule_replies.specs.declared.replies.Reply.{Reply as CodeReply}
 use Rattle.schedule_replies.specs.declared.replies.Reply.TheVariants as replies
 use Rattle.schedule_replies.specs.Replies.{reply_value}

@@ -9,11 +9,11 @@ use Rattle.mld_model.specs.Reply.{Reply, Shows}
 use Rattle.mld_model.specs.Local.{LocalClone}
 use Rattle.mld_model.specs.StandsFor.{RunningWorld}
 use Rattle.mld_ops.specs.Present.{present}
-use Rattle.schedule_model.specs.jrql_patterns.declared.queries.ReadQuery.{ReadQuery}
-use Rattle.schedule_model.specs.Querying.{AnswersQuery}
-use Rattle.schedule_model.specs.declared.Command.{Command}
-use Rattle.schedule_model.specs.declared.Command.TheVariants.{Show, Query, Compare}
-use Rattle.schedule_model.proofs.WorldLaws.{LocallyCompares, stepped, show_follows, show_missing, query_follows, query_missing, compare_follows, compare_missing_first, compare_missing_second}
+use Rattle.crash_laws.specs.schedule_model.jrql_patterns.declared.queries.ReadQuery.{ReadQuery}
+use Rattle.crash_laws.specs.schedule_model.Querying.{AnswersQuery}
+use Rattle.crash_laws.specs.schedule_model.declared.Command.{Command}
+use Rattle.crash_laws.specs.schedule_model.declared.Command.TheVariants.{Show, Query, Compare}
+use Rattle.crash_laws.proofs.of_schedule_model.WorldLaws.{LocallyCompares, stepped, show_follows, show_missing, query_follows, query_missing, compare_follows, compare_missing_first, compare_missing_second}
 use Rattle.crash_laws.specs.clone_core.Banked.{BankedClone}
 use Rattle.world_commands.specs.declared.faults.WorldFault.{WorldFault}
 use Rattle.world_commands.specs.declared.parts.Parts.{Parts}

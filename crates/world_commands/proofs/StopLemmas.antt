@@ -24,11 +24,11 @@ use Rattle.mld_model.specs.StandsFor.{RunningWorld, StoredStandsFor}
 use Rattle.mld_model.specs.World.{World, clone_at, with_clone}
 use Rattle.mld_model.proofs.LocalLaws.{kept_by}
 use Rattle.mld_model.proofs.StandsForLaws.{LiveAt, live_at}
-use Rattle.schedule_model.specs.declared.Command.TheVariants.{Stop, Open}
-use Rattle.schedule_model.specs.Step.{Step}
-use Rattle.schedule_model.specs.WorldStep.{Follows, IsMissingReply, IsStandingReply}
-use Rattle.schedule_model.proofs.ChangesLaws.{step_keeps_domain}
-use Rattle.schedule_model.proofs.StopLaws.{stop_live, stop_missing, open_standing, open_stored, open_empty}
+use Rattle.crash_laws.specs.schedule_model.declared.Command.TheVariants.{Stop, Open}
+use Rattle.crash_laws.specs.schedule_model.Step.{Step}
+use Rattle.crash_laws.specs.schedule_model.WorldStep.{Follows, IsMissingReply, IsStandingReply}
+use Rattle.crash_laws.proofs.of_schedule_model.ChangesLaws.{step_keeps_domain}
+use Rattle.crash_laws.proofs.of_schedule_model.StopLaws.{stop_live, stop_missing, open_standing, open_stored, open_empty}
 use Rattle.crash_laws.specs.clone_core.Banked.{KeepsClone, kept_as}
 use Rattle.crash_laws.specs.clone_core.Opening.{TellsClone, OpensClone, banks_of_mounted, SyncsBoth, FailsToOpen, mount_calls}
 use Rattle.crash_laws.specs.clone_core.declared.mounts.Mounted.{Mounted}

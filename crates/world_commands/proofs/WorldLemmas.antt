@@ -12,10 +12,10 @@ use Rattle.mld_model.specs.Sound.{IsSound}
 use Rattle.mld_model.specs.StandsFor.{RunningClone, RunningWorld, StandsFor}
 use Rattle.mld_model.specs.World.{World}
 use Rattle.mld_model.proofs.StandsForLaws.{live_at}
-use Rattle.schedule_model.specs.declared.Command.{Command}
-use Rattle.schedule_model.specs.Step.{Step, number_of_clone}
-use Rattle.schedule_model.specs.WorldStep.{Follows, IsMissingReply}
-use Rattle.schedule_model.proofs.WorldLaws.{next_tick_within}
+use Rattle.crash_laws.specs.schedule_model.declared.Command.{Command}
+use Rattle.crash_laws.specs.schedule_model.Step.{Step, number_of_clone}
+use Rattle.crash_laws.specs.schedule_model.WorldStep.{Follows, IsMissingReply}
+use Rattle.crash_laws.proofs.of_schedule_model.WorldLaws.{next_tick_within}
 use Rattle.crash_laws.specs.clone_core.Banked.{BankedClone}
 use Rattle.world_commands.specs.declared.parts.Parts.{Parts}
 use Rattle.schedule_replies.specs.declared.replies.Reply.{Reply as CodeReply}

@@ -7,7 +7,7 @@ use Rattle.mld_model.specs.declared.CloneState.TheVariants as states
 use Rattle.mld_model.specs.Local.{LocalAsker, LocalClone, joined_clone}
 use Rattle.mld_model.specs.LocalStep.{IsForeignTo}
 use Rattle.mld_model.specs.StandsFor.{RunningClone}
-use Rattle.schedule_model.specs.WorldStep.{IsAwayReply}
+use Rattle.crash_laws.specs.schedule_model.WorldStep.{IsAwayReply}
 use Rattle.crash_laws.specs.clone_core.Banked.{BankedClone}
 use Rattle.crash_laws.specs.clone_core.CloneCalls.{LocallyReceives, Refuses}
 use Rattle.crash_laws.specs.clone_core.Joining.{IsGiveFor, GivesNone}

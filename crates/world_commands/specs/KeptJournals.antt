@@ -1,7 +1,7 @@
 -- What a live clone keeps of its journal, by the command and the reply. `keep` cites it.
 use Rattle.std.specs.Prelude.{◌≡◌, ℕ, length}
-use Rattle.schedule_model.specs.declared.Command.{Command}
-use Rattle.schedule_model.specs.declared.Command.TheVariants as commands
+use Rattle.crash_laws.specs.schedule_model.declared.Command.{Command}
+use Rattle.crash_laws.specs.schedule_model.declared.Command.TheVariants as commands
 use Rattle.schedule_replies.specs.declared.replies.Reply.{Reply}
 use Rattle.schedule_replies.specs.declared.replies.Reply.TheVariants as replies
 use Rattle.crash_laws.specs.clone_core.Banked.{BankedClone}

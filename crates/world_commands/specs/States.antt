@@ -5,7 +5,7 @@ use Rattle.mld_model.specs.Local.{LocalAsker}
 use Rattle.mld_model.specs.StandsFor.{RunningClone, id_of}
 use Rattle.mld_ops.specs.Properties.{AreKept}
 use Rattle.mld_model.specs.declared.CloneState.TheVariants as states
-use Rattle.schedule_model.specs.WorldStep.{IsMissingReply}
+use Rattle.crash_laws.specs.schedule_model.WorldStep.{IsMissingReply}
 
 -- the clone of the number is in this state
 abbrev pub HasState : {X : Type 0} → List X → ℕ → X → Type 0

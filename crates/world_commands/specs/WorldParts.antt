@@ -3,8 +3,8 @@ use Rattle.std.specs.Prelude.{◌≡◌, ℕ, ◌+◌, ◌<◌, Result, map, len
 use Rattle.mld_io.specs.Arm.{Meter}
 use Rattle.mld_io.specs.Disk.{Log}
 use Rattle.mld_ops.specs.Messages.{message_value}
-use Rattle.schedule_model.specs.WorldStep.{step_limit}
-use Rattle.schedule_model.specs.declared.Command.{Command}
+use Rattle.crash_laws.specs.schedule_model.WorldStep.{step_limit}
+use Rattle.crash_laws.specs.schedule_model.declared.Command.{Command}
 use Rattle.world_commands.specs.declared.faults.WorldFault.{WorldFault}
 use Rattle.world_commands.specs.declared.parts.Parts.{Parts}
 use Rattle.schedule_replies.specs.declared.replies.Reply.{Reply}

@@ -5,10 +5,10 @@ use Rattle.mld_model.specs.World.{World}
 use Rattle.mld_model.specs.Reply.{Reply}
 use Rattle.mld_model.specs.Sound.{IsSound}
 use Rattle.mld_model.specs.StandsFor.{RunningWorld, StandsFor}
-use Rattle.schedule_model.specs.declared.Command.{Command}
-use Rattle.schedule_model.specs.ReplyText.{reply_text}
-use Rattle.schedule_model.specs.Step.{Step}
-use Rattle.schedule_model.specs.WorldStep.{Follows}
+use Rattle.crash_laws.specs.schedule_model.declared.Command.{Command}
+use Rattle.crash_laws.specs.schedule_model.ReplyText.{reply_text}
+use Rattle.crash_laws.specs.schedule_model.Step.{Step}
+use Rattle.crash_laws.specs.schedule_model.WorldStep.{Follows}
 use Rattle.world_commands.specs.WorldBanks.{BankedWorld, StandsOnBanks}
 
 -- there is a sound world of the model that the running world stands for

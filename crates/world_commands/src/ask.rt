@@ -1,6 +1,6 @@
 //! The command `ask`.
 ghost use Rattle.std.specs.Prelude.{◌<◌, vec_len, IfOk, IsOk};
-ghost use Rattle.schedule_model.specs.declared.Command.TheVariants as commands;
+ghost use Rattle.crash_laws.specs.schedule_model.declared.Command.TheVariants as commands;
 ghost use Rattle.world_commands.specs.WorldParts.{KeepsDomain, HasFaultsOfParts, Does};
 ghost use Rattle.world_commands.specs.LeftBanks.{LeavesAt};
 ghost use Rattle.world_commands.specs.Doings.{doing_nothing};

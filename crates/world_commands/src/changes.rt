@@ -6,7 +6,7 @@ ghost use Rattle.jrql_ast.specs.InForm.{IsPlanInForm};
 ghost use Rattle.jrql_ast.specs.Templates.{insertion_of, deletion_of};
 ghost use Rattle.mld_ops.specs.Messages.{message_value};
 ghost use Rattle.mld_model.specs.declared.CloneState.TheVariants as kinds;
-ghost use Rattle.schedule_model.specs.declared.Command.TheVariants as commands;
+ghost use Rattle.crash_laws.specs.schedule_model.declared.Command.TheVariants as commands;
 ghost use Rattle.crash_laws.specs.clone_core.CloneClosing.{StaysOpen};
 ghost use Rattle.world_commands.specs.Changes.{UpdatesAsReplied, SendsEntry};
 ghost use Rattle.world_commands.specs.WorldParts.{HasStepLeft, KeepsDomain, HasFaultsOfParts, Does};

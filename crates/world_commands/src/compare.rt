@@ -1,7 +1,7 @@
 //! The command `compare`.
 ghost use Rattle.std.specs.Prelude.{◌<◌, vec_len};
-ghost use Rattle.schedule_model.specs.declared.Command.TheVariants as commands;
-ghost use Rattle.schedule_model.specs.WorldStep.{LocallyCompares};
+ghost use Rattle.crash_laws.specs.schedule_model.declared.Command.TheVariants as commands;
+ghost use Rattle.crash_laws.specs.schedule_model.WorldStep.{LocallyCompares};
 ghost use Rattle.schedule_replies.specs.Replies.{reply_value};
 ghost use Rattle.world_commands.specs.WorldParts.{Does};
 

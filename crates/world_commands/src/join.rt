@@ -4,7 +4,7 @@ ghost use Rattle.text_rules.specs.Domain.{is_domain};
 ghost use Rattle.mld_ops.specs.Messages.{message_value};
 ghost use Rattle.mld_model.specs.Local.{IsNamed};
 ghost use Rattle.mld_model.specs.declared.CloneState.TheVariants as kinds;
-ghost use Rattle.schedule_model.specs.declared.Command.TheVariants as commands;
+ghost use Rattle.crash_laws.specs.schedule_model.declared.Command.TheVariants as commands;
 ghost use Rattle.world_commands.specs.Asking.{AsksFirst, SendsQuestion};
 ghost use Rattle.world_commands.specs.States.{HasState};
 ghost use Rattle.world_commands.specs.declared.faults.WorldFault.TheVariants.{NoMemory};

@@ -2,7 +2,7 @@
 ghost use Rattle.std.specs.Prelude.{◌<◌, vec_len, map, IsTrue, IfOk, IsOk};
 ghost use Rattle.text_rules.specs.Domain.{is_domain};
 ghost use Rattle.mld_model.specs.Local.{IsNamed};
-ghost use Rattle.schedule_model.specs.declared.Command.TheVariants as commands;
+ghost use Rattle.crash_laws.specs.schedule_model.declared.Command.TheVariants as commands;
 ghost use Rattle.world_commands.specs.OpeningBanks.{IsWholeAt, IsUndamaged, IsOpenedAs, OpensBanks};
 ghost use Rattle.world_commands.specs.WorldBanks.{banks_of_state, HasFaultsFor};
 ghost use Rattle.world_commands.specs.OneCall.{UsesBanksOf};

@@ -2,8 +2,8 @@
 ghost use Rattle.std.specs.Prelude.{◌≡◌, ◌<◌, vec_len, None, IfOk, IfErr};
 ghost use Rattle.jrql_ast.specs.InForm.{IsQueryInForm};
 ghost use Rattle.mld_ops.specs.Present.{present};
-ghost use Rattle.schedule_model.specs.Querying.{AnswersQuery};
-ghost use Rattle.schedule_model.specs.declared.Command.TheVariants as commands;
+ghost use Rattle.crash_laws.specs.schedule_model.Querying.{AnswersQuery};
+ghost use Rattle.crash_laws.specs.schedule_model.declared.Command.TheVariants as commands;
 ghost use Rattle.schedule_replies.specs.Replies.{reply_value};
 ghost use Rattle.world_commands.specs.WorldParts.{HasStepLeft, HasFaultsOfParts, Does};
 
@@ -11,8 +11,8 @@ use crate::faults::WorldFault;
 use crate::parts::Parts;
 use crate::states::live_at;
 use crash_laws::clone_core::MldClone;
+use crash_laws::schedule_model::jrql_patterns::ReadQuery;
 use mld_io::{Banks, CrashBanks};
-use schedule_model::jrql_patterns::ReadQuery;
 use schedule_replies::{Reply, reply_to_query};
 use std::alloc::Global;
 use std::thread::Threads;

@@ -1,6 +1,6 @@
 //! The command `show`.
 ghost use Rattle.std.specs.Prelude.{◌<◌, vec_len};
-ghost use Rattle.schedule_model.specs.declared.Command.TheVariants as commands;
+ghost use Rattle.crash_laws.specs.schedule_model.declared.Command.TheVariants as commands;
 ghost use Rattle.world_commands.specs.WorldParts.{Does};
 
 use crate::parts::Parts;

@@ -2,7 +2,7 @@
 ghost use Rattle.std.specs.Prelude.{◌≡◌, ◌+◌, ◌<◌, ◌≤◌, ◌++◌, map, vec_len, vec_capacity};
 ghost use Rattle.crash_laws.specs.clone_core.Banked.{BankedClone};
 ghost use Rattle.mld_model.specs.declared.CloneState.TheVariants as kinds;
-ghost use Rattle.schedule_model.specs.declared.Command.TheVariants as commands;
+ghost use Rattle.crash_laws.specs.schedule_model.declared.Command.TheVariants as commands;
 ghost use Rattle.world_commands.specs.States.{HasState};
 ghost use Rattle.world_commands.specs.StoppedClones.{StopsOnBanks};
 ghost use Rattle.world_commands.specs.WorldBanks.{banks_of_state, HadNoFaults};

@@ -1,8 +1,8 @@
 use Rattle.std.proofs.Common.{IsOk, refl}
-use Rattle.schedule_model.specs.Tasks.{command_done}
-use Rattle.schedule_model.specs.Step.{number_of_clone}
-use Rattle.schedule_model.specs.declared.Command.TheVariants as commands
-use Rattle.schedule_model.specs.declared.CrashTask.TheVariants as tasks
+use Rattle.schedule_text.specs.schedule_model.Tasks.{command_done}
+use Rattle.schedule_text.specs.schedule_model.Step.{number_of_clone}
+use Rattle.schedule_text.specs.schedule_model.declared.Command.TheVariants as commands
+use Rattle.schedule_text.specs.schedule_model.declared.CrashTask.TheVariants as tasks
 use Rattle.net_world.proofs.LeftFronts.{task_leaves, nothing_leaves, same_leaves, named_leaves}
 use Rattle.net_world.proofs.StepLemmas.{answered_as, crash_answered}
 use Rattle.net_world.proofs.commands.answer.Goals as goal

@@ -1,6 +1,6 @@
 use Rattle.std.proofs.Common.{IsOk, sym, subst}
-use Rattle.schedule_model.specs.Tasks.{number_of_task}
-use Rattle.schedule_model.specs.declared.CrashTask.{CrashTask}
+use Rattle.schedule_text.specs.schedule_model.Tasks.{number_of_task}
+use Rattle.schedule_text.specs.schedule_model.declared.CrashTask.{CrashTask}
 use Rattle.world_commands.specs.LeftBanks.{LeavesAt}
 use Rattle.net_world.specs.CrashedWorlds.{doing_task}
 use Rattle.net_world.proofs.crash.do_task.Goals as goal

@@ -1,5 +1,5 @@
 use Rattle.std.proofs.Common.{◌<◌, ℕ, List, ◌∷◌, length, option_map, arith}
-use Rattle.schedule_model.specs.Characters.{space}
+use Rattle.schedule_text.specs.schedule_model.Characters.{space}
 use Rattle.shell_session.specs.ReadShell.{tail_of}
 use Rattle.shell_session.specs.ShellLines.{property_limit}
 use Rattle.shell_session.proofs.ShellIris.{ReadsOn, no_next, one_more, all_read}

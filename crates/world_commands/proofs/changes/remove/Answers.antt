@@ -2,7 +2,7 @@ use Rattle.std.proofs.Common.{arith, IsOk, ap, subst, sym, ◌∙◌}
 use Rattle.rdf_terms.specs.declared.terms.Triple.{Triple}
 use Rattle.jrql_ast.specs.InForm.{IsPlanInForm}
 use Rattle.jrql_ast.specs.Templates.{deletion_of}
-use Rattle.schedule_model.proofs.PlanLaws.{deletion_in_form}
+use Rattle.crash_laws.proofs.of_schedule_model.PlanLaws.{deletion_in_form}
 use Rattle.jrql_ast.specs.declared.plans.UpdatePlan.{UpdatePlan}
 use Rattle.world_commands.specs.Doings.{doing_update}
 use Rattle.world_commands.specs.LeftBanks.{LeavesAt}

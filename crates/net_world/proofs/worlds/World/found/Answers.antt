@@ -1,7 +1,7 @@
 use Rattle.std.proofs.Common.{◌∙◌, ap, map, refl, subst, List, ℕ}
 use Rattle.mld_ops.specs.Messages.{message_value}
 use Rattle.mld_ops.specs.declared.messages.Message.{Message}
-use Rattle.schedule_model.specs.Schedule.{Setup, KeepsEachOnce}
+use Rattle.schedule_text.specs.schedule_model.Schedule.{Setup, KeepsEachOnce}
 use Rattle.schedule_text.specs.ReadLines.{setup_of}
 use Rattle.net_world.proofs.EndLemmas.{founded_from, founded_standing_on}
 use Rattle.std.proofs.lemmas.Result.{err_from_is_err_and}

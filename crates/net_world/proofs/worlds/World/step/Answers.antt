@@ -1,10 +1,10 @@
 use Rattle.std.proofs.Common.{◌+◌, List, Err, arith, ap, map, subst}
 use Rattle.std.proofs.lemmas.Result.{err_from_is_err_and}
-use Rattle.schedule_model.specs.Step.{number_of_clone}
+use Rattle.schedule_text.specs.schedule_model.Step.{number_of_clone}
 use Rattle.world_commands.specs.WorldBanks.{BankedWorld, banks_of_state, HadNoFaults, HasFaultsFor}
 use Rattle.world_commands.specs.WorldParts.{running_of}
 use Rattle.world_commands.specs.Worlds.{Stepped}
-use Rattle.schedule_model.specs.Tasks.{command_done}
+use Rattle.schedule_text.specs.schedule_model.Tasks.{command_done}
 use Rattle.net_world.specs.LeftBehind.{LeavesBanksAt}
 use Rattle.net_world.specs.SettledWorlds.{SettlesWorld, LiveKept}
 use Rattle.net_world.proofs.SettledSteps.{number_within, step_settles}
