@@ -9,8 +9,8 @@ use Rattle.jrql_ast.specs.Templates.{insertion_of, deletion_of}
 use Rattle.mld_model.specs.Local.{LocalClone}
 use Rattle.mld_model.specs.Reply.{Reply}
 use Rattle.mld_model.specs.Reply as model
-use Rattle.schedule_model.specs.Characters.{line_end}
-use Rattle.schedule_model.specs.ReplyText.{reply_text}
+use Rattle.node_model.specs.schedule_model.Characters.{line_end}
+use Rattle.node_model.specs.schedule_model.ReplyText.{reply_text}
 use Rattle.node_model.specs.clone_parts.KeptSteps.{KeptStep, appends}
 use Rattle.node_model.specs.shell_session.declared.commands.ShellCommand.{ShellCommand}
 use Rattle.node_model.specs.shell_session.declared.commands.ShellCommand.TheVariants as shell

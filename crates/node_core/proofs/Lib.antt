@@ -1,3 +1,4 @@
+pub use Rattle.node_model.proofs.of_schedule_model as of_schedule_model
 pub use Rattle.node_model.proofs.of_journal_sides as of_journal_sides
 pub use Rattle.node_model.proofs.of_journal_store as of_journal_store
 pub use Rattle.node_model.proofs.of_clone_parts as of_clone_parts
@@ -14,3 +15,4 @@ mod UnderWay
 mod QuietLaws
 mod KindLaws
 mod PieceLaws
+mod CompleteEvents

@@ -1,3 +1,4 @@
+pub use Rattle.node_model.specs.schedule_model as schedule_model
 pub use Rattle.node_model.specs.journal_sides as journal_sides
 pub use Rattle.node_model.specs.journal_store as journal_store
 pub use Rattle.node_model.specs.clone_parts as clone_parts
@@ -10,4 +11,5 @@ pub mod NodeFaults
 pub mod LoanCalls
 pub mod Nodes
 pub mod NodeEvents
+pub mod EventCompleteness
 pub mod Steps
