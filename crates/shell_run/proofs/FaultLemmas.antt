@@ -60,7 +60,7 @@ words_usage words.NoMemory Refused told = record { refused = λ is. absurd (cc (
 
 -- no bank was called
 pub meters_same : (meter : Meter) → Meters meter meter ⊥
-meters_same meter = record { later = omega arith; real_later = omega arith; unarmed = λ is. is; cause = λ none. absurd none; quiet = λ none. (refl, refl) }
+meters_same meter = record { later = omega arith; real_later = omega arith; unarmed = λ is. is; failed = λ none. absurd none; cause = λ none. absurd none; quiet = λ none. (refl, refl) }
 
 -- one line after others that had no fault
 pub meters_then : {F : Type 0} (before middle now : Meter) → Meters before middle ⊥ → Meters middle now F → Meters before now F
@@ -70,6 +70,7 @@ meters_then before middle now one two =
       later = omega (arith, one.later, two.later);
       real_later = omega (arith, one.real_later, two.real_later);
       unarmed = λ is. two.unarmed (one.unarmed is);
+      failed = λ failed. two.failed failed ∙ ap counted well.0;
       cause = λ failed is. two.cause failed (one.unarmed is) ∙ ap counted well.1;
       quiet = λ none. let more = two.quiet none in (more.0 ∙ well.0, more.1 ∙ well.1);
     }

@@ -3,3 +3,4 @@ pub mod Inputs
 pub mod ShellEnds
 pub mod ShellUnderWay
 pub mod FolderWords
+pub mod ShellCompleteness

@@ -3,7 +3,9 @@
 
 mod faults;
 mod folder;
+mod laws;
 pub mod run;
 
 pub use faults::FolderFault;
 pub use folder::read_folder;
+pub use laws::all_lines_are_done;

@@ -2,10 +2,12 @@
 ghost use Rattle.std.specs.Prelude.{◌≡◌, ◌≢◌, map, Some};
 ghost use Rattle.std.specs.String.{string_bytes};
 ghost use Rattle.input_lines.specs.InputFaults.{RoseJustWhere};
+ghost use Rattle.input_lines.specs.Taken.{WhereTold};
 ghost use Rattle.input_lines.specs.Untouched.{AreUntouched};
 ghost use Rattle.shell_run.specs.FolderWords.{AreRefusedWords};
 ghost use Rattle.shell_session.specs.SessionLines.{Meters};
 ghost use Rattle.shell_session.specs.RunEnds.{TellsUsage, IfFound};
+ghost use Rattle.shell_run.specs.Inputs.{IsReadSo};
 ghost use Rattle.shell_run.specs.ShellEnds.{ShellEnds};
 ghost use Rattle.shell_run.specs.ShellStatuses.{shell_status, fault_of_words, fault_of_line, shell_fault_of_input, shell_fault_of_write};
 
@@ -74,6 +76,9 @@ pub fn shell<R: Threads + Sync, S: Source, K: Sink, B: Banks>(
     // At 1 nothing is read or written, and no bank is called.
     ensures untouched { result.fault ≡ Some ShellFault.Usage → AreUntouched source.old source.new sink.old sink.new }
     ensures same_banks { result.fault ≡ Some ShellFault.Usage → result.banks ≡ banks }
+    // How far a source that tells its bytes was read, whatever the banks tell. 0: to its end, and no line is too large. 7: the line of the
+    // number is the first that is. 2: no more than a part of one line was read behind those whose LF was.
+    ensures input { WhereTold (S.left source.old) (IsReadSo result.fault (S.left source.new)) }
     // How the run ended over banks that tell their log: the lines that it did are a run of the model's shell over what was found on the banks
     // at first, and where the source tells its bytes they are these.
     //
@@ -152,6 +157,7 @@ fn do_lines<R: Threads + Sync, S: Source, K: Sink, B: Banks>(
 ) -> ShellRan<B>
     ensures status { result.status ≡ shell_status result.fault }
     ensures begun { result.fault ≢ Some ShellFault.Usage }
+    ensures input { WhereTold (S.left source.old) (IsReadSo result.fault (S.left source.new)) }
     ensures ends { IfFound (B.log banks) (λ found. ShellEnds result.fault found (S.left source.new) (record {
       given = S.left source.old;
       before = K.held sink.old;

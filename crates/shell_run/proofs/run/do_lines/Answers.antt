@@ -1,4 +1,4 @@
-use Rattle.std.proofs.Common.{◌∙◌, refl, sym, ap, arith, Some}
+use Rattle.std.proofs.Common.{◌∙◌, refl, sym, ap, arith}
 use Rattle.mld_io.specs.Disk.{seen}
 use Rattle.shell_session.specs.journal_sides.Pairs.{read_banks}
 use Rattle.input_lines.proofs.TakenLemmas.{end_first, end_more, end_cut, end_none, takes_some, end_of_line, advanced, err_same, read_well}
@@ -7,6 +7,7 @@ use Rattle.shell_session.specs.Sessions.{session_banks}
 use Rattle.shell_run.specs.Inputs.{AreFirstLines, AreAllLines, AreReadLines, AreLinesBefore}
 use Rattle.shell_run.specs.ShellEnds.{between}
 use Rattle.shell_run.proofs.FaultLemmas.{read_rose, write_rose, reading_not_writing, line_not_reading, line_not_writing, writing_not_reading, meters_same, meters_then}
+use Rattle.shell_run.proofs.InputLemmas.{none_taken, one_taken, read_whole, read_short, unsaid_line, unsaid_writing}
 use Rattle.shell_run.proofs.WayLemmas.{way_first, way_more, are_first, are_all, are_read, are_before, stops_between, stops_within, stops_writing, ends_reading, ends_line, ends_writing}
 use Rattle.shell_run.proofs.run.do_lines.Goals as goal
 
@@ -26,7 +27,8 @@ loop-line-init g c = record {
   way = λ log told. way_first g.B.Banks.log c.args.banks c.new-session.result (g.S.Source.left c.args.source.now) (g.K.Sink.held c.args.sink.now) c.in-Ok.lines.taken log c.new-session.ensures (ap (λ l. l.taken) c.in-Ok.ensures) told;
   standing = rw c.new-session.ensures tt;
   meters = rw c.new-session.ensures (meters_same (g.B.Banks.meter c.args.banks));
-  ends = λ log told. end_first (g.S.Source.left c.args.source.now) c.in-Ok.lines.ended (ap (λ l. l.ended) c.in-Ok.ensures);
+  so_far = none_taken (g.S.Source.left c.args.source.now) c.in-Ok.lines.taken (ap (λ l. l.taken) c.in-Ok.ensures);
+  ends = end_first (g.S.Source.left c.args.source.now) c.in-Ok.lines.ended (ap (λ l. l.ended) c.in-Ok.ensures);
   good = ap (λ l. l.good) c.in-Ok.ensures;
   limits = record { in_line = ap (λ l. l.line) c.in-Ok.ensures; in_all = ap (λ l. l.all) c.in-Ok.ensures };
   few = omega arith;
@@ -45,8 +47,11 @@ loop-line-preserved g c = record {
       (rw (sym c.as_slice-in-loop-line.ensures.value) c.in_default.ensures.ok);
   standing = c.in-Ok-line.ensures.standing;
   meters = meters_then (g.B.Banks.meter c.args.banks) (g.B.Banks.meter (session_banks c.loop-line.session)) (g.B.Banks.meter (session_banks c.in-Ok-line.session)) c.loop-line.invariant.meters c.in-Ok-line.ensures.fault;
-  ends = λ log told. end_more (g.S.Source.left c.args.source.now) (g.S.Source.left c.loop-line.source) (g.S.Source.left c.next_line.new.source) c.loop-line.lines.taken c.next_line.new.lines.taken c.loop-line.done
-      (c.loop-line.invariant.way log told).done.lines c.in-Ok-Some.line c.loop-line.lines.ended c.next_line.new.lines.ended (c.loop-line.invariant.ends log told) (c.loop-line.invariant.way log told).left_of
+  so_far = one_taken (g.S.Source.left c.args.source.now) (g.S.Source.left c.loop-line.source) c.loop-line.lines.taken c.loop-line.done c.loop-line.invariant.so_far (g.S.Source.left c.next_line.new.source)
+      c.next_line.new.lines.taken c.in-Ok-Some.line
+      (takes_some (g.S.Source.left c.loop-line.source) (g.S.Source.left c.next_line.new.source) c.in-Ok-Some.field-0 c.loop-line.lines.taken c.next_line.new.lines.taken c.in-Ok-Some.line c.in-Ok-Some.line c.in-Ok-Some.field-0-is refl c.in-Ok-Some.ensures.line);
+  ends = end_more (g.S.Source.left c.args.source.now) (g.S.Source.left c.loop-line.source) (g.S.Source.left c.next_line.new.source) c.loop-line.lines.taken c.next_line.new.lines.taken c.loop-line.done
+      c.loop-line.invariant.so_far.lines c.in-Ok-Some.line c.loop-line.lines.ended c.next_line.new.lines.ended c.loop-line.invariant.ends c.loop-line.invariant.so_far.left_of
       (takes_some (g.S.Source.left c.loop-line.source) (g.S.Source.left c.next_line.new.source) c.in-Ok-Some.field-0 c.loop-line.lines.taken c.next_line.new.lines.taken c.in-Ok-Some.line c.in-Ok-Some.line c.in-Ok-Some.field-0-is refl c.in-Ok-Some.ensures.line)
       (λ bytes left. end_of_line c.next_line.new.lines.ended bytes c.in-Ok-Some.field-0 c.in-Ok-Some.line c.in-Ok-Some.field-0-is (c.in-Ok-Some.ensures.ended bytes left));
   good = c.in-Ok-Some.ensures.good;
@@ -69,7 +74,7 @@ returns-in-Ok-None-clause-ends g c = λ log told.
     rw (c.end_run-in-Ok-None.ensures.fault, c.end_run-in-Ok-None.ensures.banks ∙ c.into_banks-in-Ok-None.ensures)
     (stops_between g.B.Banks.log (AreAllLines (g.S.Source.left c.next_line.new.source)) (found_in (read_banks (seen log))) (g.B.Banks.log c.args.banks) (g.S.Source.left c.args.source.now) (g.S.Source.left c.loop-line.source) (g.K.Sink.held c.args.sink.now) (g.K.Sink.held c.loop-line.sink) c.loop-line.lines.taken c.loop-line.session c.loop-line.done (c.loop-line.invariant.way log told)
     (are_all g.B.Banks.log (found_in (read_banks (seen log))) (g.B.Banks.log c.args.banks) (g.S.Source.left c.args.source.now) (g.S.Source.left c.loop-line.source) (g.S.Source.left c.next_line.new.source) (g.K.Sink.held c.args.sink.now) (g.K.Sink.held c.loop-line.sink) c.loop-line.lines.taken c.loop-line.session c.loop-line.done (c.loop-line.invariant.way log told)
-    (end_none (g.S.Source.left c.args.source.now) (g.S.Source.left c.loop-line.source) (g.S.Source.left c.next_line.new.source) c.in-Ok-None.field-0 c.loop-line.lines.taken c.next_line.new.lines.taken c.loop-line.done c.loop-line.lines.ended (c.loop-line.invariant.ends log told)
+    (end_none (g.S.Source.left c.args.source.now) (g.S.Source.left c.loop-line.source) (g.S.Source.left c.next_line.new.source) c.in-Ok-None.field-0 c.loop-line.lines.taken c.next_line.new.lines.taken c.loop-line.done c.loop-line.lines.ended c.loop-line.invariant.ends
     c.in-Ok-None.field-0-is c.in-Ok-None.ensures.line c.in-Ok-None.ensures.at_end)))
 
 -- ---- a line could not be read
@@ -81,7 +86,7 @@ returns-in-Err-next_line-clause-ends g c = λ log told.
     (λ is. stops_between g.B.Banks.log (AreReadLines (g.S.Source.left c.next_line.new.source)) (found_in (read_banks (seen log))) (g.B.Banks.log c.args.banks) (g.S.Source.left c.args.source.now) (g.S.Source.left c.loop-line.source) (g.K.Sink.held c.args.sink.now) (g.K.Sink.held c.loop-line.sink) c.loop-line.lines.taken c.loop-line.session c.loop-line.done (c.loop-line.invariant.way log told)
     (are_read g.B.Banks.log (found_in (read_banks (seen log))) (g.B.Banks.log c.args.banks) (g.S.Source.left c.args.source.now) (g.S.Source.left c.loop-line.source) (g.S.Source.left c.next_line.new.source) (g.K.Sink.held c.args.sink.now) (g.K.Sink.held c.loop-line.sink) c.loop-line.lines.taken c.loop-line.session c.loop-line.done (c.loop-line.invariant.way log told)
     (c.in-Err-next_line.ensures.broken_off (err_same _ _ is))
-    (end_cut (g.S.Source.left c.args.source.now) (g.S.Source.left c.loop-line.source) (g.S.Source.left c.next_line.new.source) c.loop-line.done c.loop-line.lines.ended (c.loop-line.invariant.ends log told) c.in-Err-next_line.ensures.failed (c.in-Err-next_line.ensures.broken_off (err_same _ _ is)))))
+    (end_cut (g.S.Source.left c.args.source.now) (g.S.Source.left c.loop-line.source) (g.S.Source.left c.next_line.new.source) c.loop-line.done c.loop-line.lines.ended c.loop-line.invariant.ends c.in-Err-next_line.ensures.failed (c.in-Err-next_line.ensures.broken_off (err_same _ _ is)))))
     (λ at is.
     let large = c.in-Err-next_line.ensures.large at (err_same _ _ is) in
     stops_between g.B.Banks.log (AreLinesBefore at) (found_in (read_banks (seen log))) (g.B.Banks.log c.args.banks) (g.S.Source.left c.args.source.now) (g.S.Source.left c.loop-line.source) (g.K.Sink.held c.args.sink.now) (g.K.Sink.held c.loop-line.sink) c.loop-line.lines.taken c.loop-line.session c.loop-line.done (c.loop-line.invariant.way log told)
@@ -110,6 +115,35 @@ returns-in-Err-write_all-clause-ends g c = λ log told.
     c.as_slice.result.now c.clear.new.self.items c.line-in-loop-line.new.out.items c.in-Err-write_all.ensures.err.0 (c.loop-line.invariant.way log told)
     (takes_some (g.S.Source.left c.loop-line.source) (g.S.Source.left c.next_line.new.source) c.in-Ok-Some.field-0 c.loop-line.lines.taken c.next_line.new.lines.taken c.in-Ok-Some.line c.as_slice.result.now c.in-Ok-Some.field-0-is c.as_slice.ensures c.in-Ok-Some.ensures.line)
     c.in-Ok-line.ensures.done c.clear.ensures.items (rw (sym c.as_slice-in-loop-line.ensures.value) c.in-Err-write_all.ensures.err.1)))
+
+-- ---- how far the source was read
+
+pub returns-in-Err-clause-input : goal.returns-in-Err-clause-input
+returns-in-Err-clause-input g c = λ bytes told. rw c.end_run.ensures.fault tt
+
+pub returns-in-Ok-None-clause-input : goal.returns-in-Ok-None-clause-input
+returns-in-Ok-None-clause-input g c =
+    rw c.end_run-in-Ok-None.ensures.fault
+    (read_whole (g.S.Source.left c.args.source.now) (g.S.Source.left c.loop-line.source) c.loop-line.lines.taken c.loop-line.done c.loop-line.invariant.so_far (g.S.Source.left c.next_line.new.source)
+    (end_none (g.S.Source.left c.args.source.now) (g.S.Source.left c.loop-line.source) (g.S.Source.left c.next_line.new.source) c.in-Ok-None.field-0 c.loop-line.lines.taken c.next_line.new.lines.taken c.loop-line.done c.loop-line.lines.ended c.loop-line.invariant.ends
+    c.in-Ok-None.field-0-is c.in-Ok-None.ensures.line c.in-Ok-None.ensures.at_end))
+
+pub returns-in-Err-next_line-clause-input : goal.returns-in-Err-next_line-clause-input
+returns-in-Err-next_line-clause-input g c =
+    rw (c.end_run-in-Err-next_line.ensures.fault, c.input_fault.ensures)
+    (read_short (g.S.Source.left c.args.source.now) (g.S.Source.left c.loop-line.source) c.loop-line.lines.taken c.loop-line.done c.loop-line.invariant.so_far c.in-Err-next_line.fault (g.S.Source.left c.next_line.new.source)
+    (λ is.
+    let cut = c.in-Err-next_line.ensures.broken_off (err_same _ _ is) in
+    (cut, end_cut (g.S.Source.left c.args.source.now) (g.S.Source.left c.loop-line.source) (g.S.Source.left c.next_line.new.source) c.loop-line.done c.loop-line.lines.ended c.loop-line.invariant.ends c.in-Err-next_line.ensures.failed cut))
+    (λ at is. c.in-Err-next_line.ensures.large at (err_same _ _ is)))
+
+pub returns-in-Err-line-clause-input : goal.returns-in-Err-line-clause-input
+returns-in-Err-line-clause-input g c = λ bytes told.
+    rw (c.end_run-in-Err-line.ensures.fault, c.line_fault.ensures) (unsaid_line c.in-Err-line.fault (g.S.Source.left c.next_line.new.source) bytes)
+
+pub returns-in-Err-write_all-clause-input : goal.returns-in-Err-write_all-clause-input
+returns-in-Err-write_all-clause-input g c = λ bytes told.
+    rw (c.end_run-in-Err-write_all.ensures.fault, c.write_fault.ensures) (unsaid_writing c.in-Err-write_all.fault (g.S.Source.left c.next_line.new.source) bytes)
 
 -- ---- the counts of faults
 
