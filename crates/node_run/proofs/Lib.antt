@@ -3,6 +3,7 @@ mod LogLaws
 mod CountLaws
 mod TurnLaws
 mod WayLemmas
+mod TakenLaws
 mod ServeLaws
 mod BeginLaws
 mod Finding

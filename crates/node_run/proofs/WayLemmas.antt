@@ -37,7 +37,7 @@ use Rattle.node_run.proofs.LogLaws.{logged_then}
 -- ---- runs
 
 -- a run goes on by one event
-runs_more : (node middle next : NodeValue) (events : List Event) (event : Event) (log after : WireLog) (steps more : List KeptStep) (sent : List Sent)
+pub runs_more : (node middle next : NodeValue) (events : List Event) (event : Event) (log after : WireLog) (steps more : List KeptStep) (sent : List Sent)
     → NodeRuns node events log steps middle after → middle.halted ≡ false → NodeStep middle event sent more next
     → NodeRuns node (events ++ event ∷ []) log (steps ++ more) next (log_after sent (Took event ∷ after))
 runs_more node middle next [] event log after steps more sent runs going does = (
@@ -94,6 +94,11 @@ module _ (lead : NodeStepsLead) (found : FoundOnBanks) (texts : List (List ℕ))
 
 -- ---- under way
 
+-- a log that was told is told
+pub logged_first : (start : Option WireLog) → start ≡ option_map (λ b. unwrap_or start []) start
+logged_first None = refl
+logged_first (Some l) = refl
+
 -- a number that isn't the most is below it
 pub below : (a b : ℕ) → a ≤ b → ¬ (a ≡ b) → a < b
 below zero zero few other = absurd (other refl)
@@ -130,10 +135,6 @@ module _ {B : Type 0} (log : B → Option Log) (found : FoundOnBanks) (old : Opt
         settled = begun.settled;
       } in
       subst P (sym is) way
-    where
-      logged_first : (start : Option WireLog) → start ≡ option_map (λ b. unwrap_or start []) start
-      logged_first None = refl
-      logged_first (Some l) = refl
 
   module _ (lead : NodeStepsLead) (now : Option WireLog) (node : BankedNode B) (taken : ℕ) (way : IsServiceUnderWay log found old texts turns before now node taken) where
     -- what is found then

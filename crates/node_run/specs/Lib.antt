@@ -1,6 +1,7 @@
 pub mod ServiceStatuses
 pub mod Start
 pub mod ServiceEnds
+pub mod ServiceTurns
 pub mod NodeBegun
 pub mod ServiceUnderWay
 pub mod WordSpelling

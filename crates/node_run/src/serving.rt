@@ -3,8 +3,10 @@ ghost use Rattle.std.specs.Prelude.{◌≡◌, Some, map};
 ghost use Rattle.std.specs.String.{string_bytes};
 ghost use Rattle.node_core.specs.shell_session.SessionLines.{Meters};
 ghost use Rattle.node_core.specs.shell_session.RunEnds.{TellsUsage, IfFound};
-ghost use Rattle.node_run.specs.Words.{AreRefused};
+ghost use Rattle.node_run.specs.declared.node.NodeWords.{NodeWords};
+ghost use Rattle.node_run.specs.Words.{AreRefused, AreWords};
 ghost use Rattle.node_run.specs.ServiceStatuses.{service_status, damaged_of, LeavesWireAndBanks, CountsWire};
+ghost use Rattle.node_run.specs.ServiceTurns.{KeepsTurns, HasServed};
 ghost use Rattle.node_run.specs.ServiceEnds.{ServiceEnds};
 
 use crate::begins::begin;
@@ -40,6 +42,12 @@ pub fn serve<R: Threads + Sync, W: Wire, B: Banks>(
     ensures untouched { result.fault ≡ Some NodeStop.Usage → LeavesWireAndBanks wire.old wire.new banks result.banks }
     ensures damaged { result.damaged ≡ damaged_of result.fault }
     ensures turns { result.turns ≡ W.taken wire.new }
+    // No more events are taken than the words say, and at 8 as many.
+    ensures bounded { (node : NodeWords) → AreWords (map (λ w. string_bytes w) words.now.items) node
+        → KeepsTurns result.fault result.turns node.turns }
+    // At 0 and 8 the events taken are a run of the model's node, and a wire that tells its log tells that of the run, whatever the banks tell: at
+    // 0 the node has ended, by `End` or by a request to halt that was answered; at 8 it hasn't.
+    ensures served { HasServed result.fault result.turns (W.log wire.old) (W.log wire.new) }
     // How the run ended over banks that tell their log: by what was found on them at first and the words the node began, the events that were
     // taken are a run of the model's node, of which none was taken once it had ended, or behind the last turn; and where the wire tells its log
     // it tells that of the run.

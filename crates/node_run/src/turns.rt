@@ -12,6 +12,7 @@ ghost use Rattle.node_core.specs.node_model.Events.{log_with};
 ghost use Rattle.node_run.specs.Words.{AreWords};
 ghost use Rattle.node_run.specs.declared.node.NodeWords.{NodeWords};
 ghost use Rattle.node_run.specs.ServiceStatuses.{service_status, damaged_of, IsOfTurns, CountsWire};
+ghost use Rattle.node_run.specs.ServiceTurns.{KeepsTurns, HasServed};
 ghost use Rattle.node_run.specs.ServiceEnds.{ServiceEnds};
 ghost use Rattle.node_run.specs.NodeBegun.{BeginsOn};
 ghost use Rattle.node_run.specs.ServiceUnderWay.{Sends, SendsFront, DoesTurn, StopsTurn, node_banks_after, FailsOnBanks, HasTurnCause};
@@ -37,6 +38,8 @@ pub fn take_turns<R: Threads + Sync, W: Wire, B: Banks>(
     ensures damaged { result.damaged ≡ damaged_of result.fault }
     ensures kind { IsOfTurns result.fault }
     ensures turns { result.turns ≡ W.taken wire.new }
+    ensures bounded { KeepsTurns result.fault result.turns turns }
+    ensures served { HasServed result.fault result.turns (W.log wire.old) (W.log wire.new) }
     ensures ends { (texts : List (List ℕ)) (words : NodeWords) (found : FoundOnBanks) (old : Option Log) (first : Log)
         → old ≡ Some first → AreWords texts words → words.turns ≡ turns
         → BeginsOn B.log words found old state
