@@ -7,7 +7,7 @@ use Rattle.mld_io.specs.Disk.{Log}
 use Rattle.clone_core.specs.journal_store.Standing.{IsBlankLog}
 use Rattle.mld_model.specs.World.{World}
 use Rattle.mld_model.specs.Sound.{IsSound}
-use Rattle.schedule_model.specs.Runs.{Stage, Running}
+use Rattle.schedule_text.specs.schedule_model.Runs.{Stage, Running}
 use Rattle.net_world.specs.world_commands.WorldBanks.{BankedWorld, StandsOnBanks, AllBanksStandFor, KeepsNoneNow}
 use Rattle.net_world.specs.declared.summaries.Summary.{Summary}
 use Rattle.mld_replay.specs.RunSummaries.{TellsOf}

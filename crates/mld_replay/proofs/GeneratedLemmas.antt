@@ -12,8 +12,8 @@ use Rattle.mld_io.proofs.LinesLaws.{length-line_size, length-first_line}
 use Rattle.schedule_generator.specs.Generated.{drawn_line, lines_from, generated, text_of}
 use Rattle.schedule_generator.proofs.GeneratedText.{generated_text, generated_short}
 use Rattle.mld_model.specs.World.{World}
-use Rattle.schedule_model.specs.Promises.{KeepsPromises}
-use Rattle.schedule_model.specs.Runs.{Stage, Running, Outcome, Finished, BadLine, Verdict}
+use Rattle.schedule_text.specs.schedule_model.Promises.{KeepsPromises}
+use Rattle.schedule_text.specs.schedule_model.Runs.{Stage, Running, Outcome, Finished, BadLine, Verdict}
 use Rattle.net_world.specs.declared.summaries.Summary.{Summary}
 use Rattle.mld_replay.specs.BankFaults.{ComeBackWell, all_left, ReturnsBanks}
 use Rattle.mld_replay.specs.Counts.{counts_text}

@@ -9,3 +9,4 @@ pub mod StageLemmas
 pub mod StoppedLemmas
 pub mod SummaryLemmas
 pub mod SpelledLines
+pub mod CompletenessLemmas

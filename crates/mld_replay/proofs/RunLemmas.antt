@@ -12,14 +12,14 @@ use Rattle.std.specs.Io.KnownBytes.{Appends}
 use Rattle.mld_io.specs.Disk.{Log}
 use Rattle.mld_io.specs.Lines.{lines_of, after_line, IsCutShort}
 use Rattle.mld_io.proofs.LinesLaws.{first_of_lines_lem}
-use Rattle.schedule_model.specs.Runs.{Stage, Waiting, Acts, Runs, bad_line, no_domain, IsBad, RunsBefore, Verdict}
+use Rattle.schedule_text.specs.schedule_model.Runs.{Stage, Waiting, Acts, Runs, bad_line, no_domain, IsBad, RunsBefore, Verdict}
 use Rattle.mld_replay.specs.Ran.{Saying, Finishes, StopsAtBad, StopsAtLarge, BreaksOff, WritesFront, WritesWhole, fails_amid, short_amid, short_writing, short_of_banks, ReplayEnds, CountsReads, CountsWrites}
 use Rattle.mld_replay.specs.BanksLeft.{AreLeftAmid}
 use Rattle.mld_replay.specs.Replaying.{says_by, run_fault_of_input, run_fault_of_write, IsReplayFault, IsLineFault}
 use Rattle.mld_replay.specs.Stages.{StageStands, IsStandingStage, ActsWell, EndsWell, steps_of_stage, banks_of_stage}
 use Rattle.mld_replay.specs.declared.stages.Stage.{Stage as RunningStage}
 use Rattle.mld_replay.specs.declared.stages.Stage.TheVariants as stages
-use Rattle.schedule_model.proofs.PromisesLaws.{promises_kept}
+use Rattle.schedule_text.proofs.of_schedule_model.PromisesLaws.{promises_kept}
 use Rattle.mld_replay.specs.declared.run.RunFault.{RunFault}
 use Rattle.mld_replay.specs.declared.run.RunFault.TheVariants as faults
 use Rattle.mld_replay.specs.declared.stops.LineStop.{LineStop}

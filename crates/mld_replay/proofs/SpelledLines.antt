@@ -22,10 +22,10 @@ use Rattle.rdf_terms.specs.Written.{IsWrittenSo}
 use Rattle.rdf_terms.specs.Grammar.{SpellsTriple, IsTripleWithin}
 use Rattle.rdf_terms.proofs.Plain.{plain_literal, plain_utf8, xsd_string_unwritten}
 use Rattle.rdf_terms.proofs.Texts.{written_so}
-use Rattle.schedule_model.specs.declared.Command.{Command}
-use Rattle.schedule_model.specs.declared.Command.TheVariants.{Add, Remove, Deliver, Ask, Compact, Truncate, Compare}
-use Rattle.schedule_model.specs.Schedule.{IsNothing, empty, comment, Setup, SpellsSetup, SpellsCommand}
-use Rattle.schedule_model.specs.Runs.{Stage, Waiting, SetUp, Running, says_nothing, sets_up, sets_property, commands, Acts, Runs, SpellsNone, IsBad, IsBadRest, bad_line, no_domain, BadLine, Verdict}
+use Rattle.schedule_text.specs.schedule_model.declared.Command.{Command}
+use Rattle.schedule_text.specs.schedule_model.declared.Command.TheVariants.{Add, Remove, Deliver, Ask, Compact, Truncate, Compare}
+use Rattle.schedule_text.specs.schedule_model.Schedule.{IsNothing, empty, comment, Setup, SpellsSetup, SpellsCommand}
+use Rattle.schedule_text.specs.schedule_model.Runs.{Stage, Waiting, SetUp, Running, says_nothing, sets_up, sets_property, commands, Acts, Runs, SpellsNone, IsBad, IsBadRest, bad_line, no_domain, BadLine, Verdict}
 use Rattle.schedule_generator.specs.Generated.{lines_from, generated}
 use Rattle.schedule_generator.specs.DrawnCommands.{drawn_triple, IsDrawn, adds, removes, delivers, asks, compacts, truncates, compares}
 use Rattle.schedule_generator.proofs.DrawnLines.{all_drawn}

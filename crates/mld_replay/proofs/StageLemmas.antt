@@ -4,17 +4,17 @@ use Rattle.std.proofs.lemmas.List.{length-append}
 use Rattle.std.specs.Prelude.{Result, Ok, Err, OnOk, IfErr, IsErrOf}
 use Rattle.mld_io.specs.Arm.{Meter}
 use Rattle.mld_io.specs.Disk.{Log}
-use Rattle.schedule_model.specs.declared.Command.{Command}
+use Rattle.schedule_text.specs.schedule_model.declared.Command.{Command}
 use Rattle.mld_model.specs.World.{World, clone_count}
 use Rattle.mld_model.specs.Reply.{Ready, PropertySet}
 use Rattle.mld_model.specs.Sound.{IsSound}
 use Rattle.mld_model.proofs.FoundedLaws.{founded_sound}
-use Rattle.schedule_model.specs.ReplyText.{reply_text}
-use Rattle.schedule_model.specs.Runs.{Stage, Waiting, SetUp, Running, IsWorldOf, IsBad, says_nothing, sets_up, sets_property, commands}
+use Rattle.schedule_text.specs.schedule_model.ReplyText.{reply_text}
+use Rattle.schedule_text.specs.schedule_model.Runs.{Stage, Waiting, SetUp, Running, IsWorldOf, IsBad, says_nothing, sets_up, sets_property, commands}
 use Rattle.schedule_text.specs.declared.setups.Setup.{Setup}
 use Rattle.schedule_text.specs.declared.setups.SetupLine.{SetupLine}
 use Rattle.schedule_text.specs.declared.setups.SetupLine.TheVariants as lines
-use Rattle.schedule_model.specs.Schedule.{Setup as ModelSetup, SpellsSetup, SetsProperty, SpellsCommand, IsSetup, single_limit, with_property}
+use Rattle.schedule_text.specs.schedule_model.Schedule.{Setup as ModelSetup, SpellsSetup, SetsProperty, SpellsCommand, IsSetup, single_limit, with_property}
 use Rattle.schedule_text.specs.ReadLines.{setup_of, SetupIs, CommandIs, IsBadCommand}
 use Rattle.net_world.specs.Founding.{StandsFounded}
 use Rattle.net_world.specs.SettledWorlds.{AllImagesStand, AreBlank, SettlesWorld, SettlesFounded}

@@ -7,11 +7,11 @@ use Rattle.std.proofs.lemmas.Option.{slice_get_cases}
 use Rattle.mld_io.specs.Disk.{Log}
 use Rattle.mld_model.specs.Sound.{IsSound}
 use Rattle.mld_model.specs.World.{World}
-use Rattle.schedule_model.specs.declared.Command.{Command}
-use Rattle.schedule_model.specs.Runs.{Stage, Waiting, SetUp, Running}
-use Rattle.schedule_model.specs.Schedule.{SpellsCommand}
-use Rattle.schedule_model.specs.Step.{HasCloneNumbers, number_of_clone}
-use Rattle.schedule_model.proofs.ScheduleLaws.{spells_numbers}
+use Rattle.schedule_text.specs.schedule_model.declared.Command.{Command}
+use Rattle.schedule_text.specs.schedule_model.Runs.{Stage, Waiting, SetUp, Running}
+use Rattle.schedule_text.specs.schedule_model.Schedule.{SpellsCommand}
+use Rattle.schedule_text.specs.schedule_model.Step.{HasCloneNumbers, number_of_clone}
+use Rattle.schedule_text.proofs.of_schedule_model.ScheduleLaws.{spells_numbers}
 use Rattle.schedule_text.specs.declared.setups.Setup.{Setup}
 use Rattle.schedule_text.specs.ReadLines.{setup_of, CommandIs}
 use Rattle.net_world.specs.world_commands.declared.faults.WorldFault.{WorldFault}

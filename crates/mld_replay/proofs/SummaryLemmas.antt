@@ -8,9 +8,9 @@ use Rattle.mld_io.specs.Arm.{Meter}
 use Rattle.mld_io.specs.Disk.{Log}
 use Rattle.mld_io.specs.Lines.{lines_of}
 use Rattle.mld_model.specs.World.{World}
-use Rattle.schedule_model.specs.Runs.{Stage, Running, RunsBefore, Outcome, Finished, BadLine, Verdict}
-use Rattle.schedule_model.specs.Laws.{AreOfOneKind}
-use Rattle.schedule_model.proofs.RunsLaws.{one_kind_of_verdict}
+use Rattle.schedule_text.specs.schedule_model.Runs.{Stage, Running, RunsBefore, Outcome, Finished, BadLine, Verdict}
+use Rattle.schedule_text.specs.schedule_model.Laws.{AreOfOneKind}
+use Rattle.schedule_text.proofs.of_schedule_model.RunsLaws.{one_kind_of_verdict}
 use Rattle.mld_replay.specs.BankFaults.{ComeBackWell, none_left, BringsBack}
 use Rattle.mld_replay.specs.Filled.{IsFirstFilled, EndsBefore, LogsStay, RefusesFilledBanks}
 use Rattle.mld_replay.specs.Looking.{AreEmpty, StopsLooking, StopsBlanking}

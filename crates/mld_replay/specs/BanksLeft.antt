@@ -5,12 +5,12 @@ use Rattle.mld_io.specs.Disk.{Log, Sides, MayLeave, LeavesOnly}
 use Rattle.clone_core.specs.journal_sides.Pairs.{KeepsNone, read_banks}
 use Rattle.mld_model.specs.Clone.{kept_of}
 use Rattle.mld_model.specs.World.{World, clone_at}
-use Rattle.schedule_model.specs.declared.Command.{Command}
-use Rattle.schedule_model.specs.Crashing.{Deed}
-use Rattle.schedule_model.specs.Runs.{Stage, Waiting, SetUp, Running, IsWorldOf}
-use Rattle.schedule_model.specs.Schedule.{Setup, SpellsCommand}
-use Rattle.schedule_model.specs.Step.{number_of_clone}
-use Rattle.schedule_model.specs.Tasks.{command_done}
+use Rattle.schedule_text.specs.schedule_model.declared.Command.{Command}
+use Rattle.schedule_text.specs.schedule_model.Crashing.{Deed}
+use Rattle.schedule_text.specs.schedule_model.Runs.{Stage, Waiting, SetUp, Running, IsWorldOf}
+use Rattle.schedule_text.specs.schedule_model.Schedule.{Setup, SpellsCommand}
+use Rattle.schedule_text.specs.schedule_model.Step.{number_of_clone}
+use Rattle.schedule_text.specs.schedule_model.Tasks.{command_done}
 use Rattle.net_world.specs.crash_laws.CarriedSteps.{owner_at, StandsSome}
 use Rattle.net_world.specs.crash_laws.CrashLines.{ImageStands}
 use Rattle.net_world.specs.FoundingLeft.{LeavesFounding}

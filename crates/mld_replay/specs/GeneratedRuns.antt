@@ -5,8 +5,8 @@ use Rattle.std.specs.Io.KnownBytes.{Appends}
 use Rattle.mld_io.specs.Faults.{Rose}
 use Rattle.mld_io.specs.Lines.{lines_of}
 use Rattle.mld_model.specs.World.{World}
-use Rattle.schedule_model.specs.Runs.{Stage, Running, Finished, Verdict}
-use Rattle.schedule_model.specs.Promises.{KeepsPromises}
+use Rattle.schedule_text.specs.schedule_model.Runs.{Stage, Running, Finished, Verdict}
+use Rattle.schedule_text.specs.schedule_model.Promises.{KeepsPromises}
 use Rattle.schedule_generator.specs.Generated.{generated, text_of}
 use Rattle.net_world.specs.declared.summaries.Summary.{Summary}
 use Rattle.mld_replay.specs.Counts.{counts_text}

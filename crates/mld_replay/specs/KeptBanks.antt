@@ -1,7 +1,7 @@
 -- What the banks keep of the stage that a schedule has come to: `says_of` says it for `run`, and `end_of` and `give_back` cite it.
 use Rattle.std.specs.Prelude.{◌≡◌, ℕ, List, Option, Some, slice_get}
 use Rattle.mld_io.specs.Disk.{Log}
-use Rattle.schedule_model.specs.Runs.{Stage, Waiting, SetUp, Running}
+use Rattle.schedule_text.specs.schedule_model.Runs.{Stage, Waiting, SetUp, Running}
 use Rattle.net_world.specs.world_commands.WorldBanks.{KeepsNoneNow, AllBanksStandFor}
 
 -- all of them keep nothing

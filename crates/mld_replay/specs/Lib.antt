@@ -14,3 +14,4 @@ pub mod BankFaults
 pub mod ReplayWords
 pub mod Counts
 pub mod GeneratedRuns
+pub mod Completeness

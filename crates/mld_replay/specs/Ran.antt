@@ -8,8 +8,8 @@ use Rattle.input_lines.specs.TooLarge.{left_after, IsTooLargeLine}
 use Rattle.input_lines.specs.Taken.{ReadsLines}
 use Rattle.input_lines.specs.Untouched.{HasNotBegun}
 use Rattle.mld_model.specs.World.{World}
-use Rattle.schedule_model.specs.Runs.{Stage, Waiting, Running, Acts, Runs, RunsBefore, Outcome, Finished, BadLine, Verdict}
-use Rattle.schedule_model.specs.Promises.{KeepsPromises}
+use Rattle.schedule_text.specs.schedule_model.Runs.{Stage, Waiting, Running, Acts, Runs, RunsBefore, Outcome, Finished, BadLine, Verdict}
+use Rattle.schedule_text.specs.schedule_model.Promises.{KeepsPromises}
 use Rattle.mld_io.specs.Disk.{Log}
 use Rattle.mld_replay.specs.RunSummaries.{TellsOf}
 use Rattle.mld_replay.specs.KeptBanks.{BanksKeep}

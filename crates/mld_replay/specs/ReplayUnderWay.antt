@@ -3,7 +3,7 @@ use Rattle.std.specs.Prelude.{◌≡◌, ℕ, ◌≤◌, List, Option, Some, len
 use Rattle.std.specs.Io.KnownBytes.{Appends}
 use Rattle.mld_io.specs.Disk.{Log}
 use Rattle.input_lines.specs.Taken.{IsLeft}
-use Rattle.schedule_model.specs.Runs.{Stage, Waiting, Runs}
+use Rattle.schedule_text.specs.schedule_model.Runs.{Stage, Waiting, Runs}
 use Rattle.mld_replay.specs.Stages.{StageStands, steps_of_stage}
 use Rattle.mld_replay.specs.declared.stages.Stage.{Stage as RunningStage}
 

@@ -6,7 +6,7 @@ use Rattle.mld_io.specs.declared.faults.WriteFault.{WriteFault}
 use Rattle.mld_io.specs.declared.faults.WriteFault.TheVariants as writes
 use Rattle.input_lines.specs.declared.faults.InputFault.{InputFault}
 use Rattle.input_lines.specs.declared.faults.InputFault.TheVariants as inputs
-use Rattle.schedule_model.specs.Runs.{Stage}
+use Rattle.schedule_text.specs.schedule_model.Runs.{Stage}
 use Rattle.mld_replay.specs.KeptBanks.{BanksKeep}
 use Rattle.mld_replay.specs.Ran.{Saying, tells}
 use Rattle.mld_replay.specs.BanksLeft.{AreLeftAmid}

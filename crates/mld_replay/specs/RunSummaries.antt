@@ -1,6 +1,6 @@
 -- What a run tells of the world that it ends with: `says_of` says it for `run`, and `end_of` and `summary_of` cite it.
 use Rattle.std.specs.Prelude.{Option, None, Some}
-use Rattle.schedule_model.specs.Runs.{Stage, Waiting, SetUp, Running}
+use Rattle.schedule_text.specs.schedule_model.Runs.{Stage, Waiting, SetUp, Running}
 use Rattle.net_world.specs.declared.summaries.Summary.{Summary}
 use Rattle.net_world.specs.WorldSummary.{TellsOfClones}
 

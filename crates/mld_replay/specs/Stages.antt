@@ -4,14 +4,14 @@ use Rattle.std.specs.Prelude.{◌≡◌, ℕ, List, Option, Some, length}
 use Rattle.mld_io.specs.Disk.{Log}
 use Rattle.mld_model.specs.World.{World, clone_count}
 use Rattle.mld_model.specs.Sound.{IsSound}
-use Rattle.schedule_model.specs.declared.Command.{Command}
-use Rattle.schedule_model.specs.Runs.{Stage, Waiting, SetUp, Running, IsWorldOf, Acts, IsBad}
-use Rattle.schedule_model.specs.Schedule.{IsSetup, SetsProperty, SpellsCommand}
+use Rattle.schedule_text.specs.schedule_model.declared.Command.{Command}
+use Rattle.schedule_text.specs.schedule_model.Runs.{Stage, Waiting, SetUp, Running, IsWorldOf, Acts, IsBad}
+use Rattle.schedule_text.specs.schedule_model.Schedule.{IsSetup, SetsProperty, SpellsCommand}
 use Rattle.schedule_text.specs.ReadLines.{setup_of, SetupIs}
 use Rattle.schedule_text.specs.declared.setups.SetupLine.TheVariants as lines
 use Rattle.net_world.specs.SettledWorlds.{AllImagesStand, AreBlank}
 use Rattle.net_world.specs.LeftBehind.{LeavesBanks}
-use Rattle.schedule_model.specs.Step.{number_of_clone}
+use Rattle.schedule_text.specs.schedule_model.Step.{number_of_clone}
 use Rattle.net_world.specs.world_commands.WorldBanks.{BankedWorld, StandsOnBanks, OthersStay, banks_of}
 use Rattle.mld_replay.specs.declared.stages.Stage.{Stage as RunningStage}
 use Rattle.mld_replay.specs.declared.stages.Stage.TheVariants as stages

@@ -3,7 +3,7 @@
 use Rattle.std.specs.Prelude.{◌≡◌, ◌⊎◌, ℕ, List, [], ◌∷◌, Option}
 use Rattle.mld_io.specs.Arm.{Meter}
 use Rattle.mld_io.specs.Disk.{Log}
-use Rattle.schedule_model.specs.Runs.{Stage}
+use Rattle.schedule_text.specs.schedule_model.Runs.{Stage}
 use Rattle.schedule_text.specs.declared.refusals.LineRefusal.{LineRefusal}
 use Rattle.schedule_text.specs.declared.refusals.LineRefusal.TheVariants as refusals
 use Rattle.net_world.specs.world_commands.declared.faults.WorldFault.{WorldFault}

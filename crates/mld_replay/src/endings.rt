@@ -2,7 +2,7 @@
 ghost use Rattle.std.specs.Prelude.{◌≡◌, ◌+◌, ◌≤◌, ◌++◌, None, IsTrue, IfOk, vec_len, vec_capacity};
 ghost use Rattle.mld_model.specs.World.{World as ModelWorld};
 ghost use Rattle.mld_model.specs.Sound.{IsSound};
-ghost use Rattle.schedule_model.specs.Runs.{Stage as ModelStage, Running};
+ghost use Rattle.schedule_text.specs.schedule_model.Runs.{Stage as ModelStage, Running};
 ghost use Rattle.net_world.specs.world_commands.WorldBanks.{StandsOnBanks, AllBanksStandFor, banks_of};
 ghost use Rattle.mld_replay.specs.RunSummaries.{TellsOf};
 ghost use Rattle.mld_replay.specs.Stages.{StageStands, banks_of_stage};

@@ -5,7 +5,7 @@ ghost use Rattle.mld_io.specs.Lines.{lines_of};
 ghost use Rattle.mld_model.specs.World.{clone_count};
 ghost use Rattle.net_world.specs.CrashedWorlds.{AreUnarmed};
 ghost use Rattle.schedule_generator.specs.Generated.{generated, text_of};
-ghost use Rattle.schedule_model.specs.Runs.{Outcome, Verdict};
+ghost use Rattle.schedule_text.specs.schedule_model.Runs.{Outcome, Verdict};
 ghost use Rattle.mld_replay.specs.BankFaults.{ReturnsBanks};
 ghost use Rattle.mld_replay.specs.Counts.{counts_text};
 ghost use Rattle.mld_replay.specs.Filled.{RefusesFilledBanks};

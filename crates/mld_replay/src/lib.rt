@@ -7,9 +7,11 @@ mod counts;
 mod edges;
 mod endings;
 mod generated;
+mod laws;
 pub mod run;
 mod stages;
 mod stops;
 mod words;
 
+pub use laws::{complete_runs, run_completely};
 pub use net_world;

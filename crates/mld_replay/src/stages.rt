@@ -3,10 +3,10 @@ ghost use Rattle.std.specs.Prelude.{◌≡◌, ◌<◌, ◌≤◌, ◌+◌, ◌�
 ghost use Rattle.mld_model.specs.World.{World as ModelWorld};
 ghost use Rattle.net_world.specs.world_commands.WorldBanks.{StandsOnBanks, banks_of};
 ghost use Rattle.net_world.specs.CrashedWorlds.{AreUnarmed};
-ghost use Rattle.schedule_model.specs.Runs.{Stage as ModelStage, Waiting, Running, IsBad};
-ghost use Rattle.schedule_model.specs.Step.{HasCloneNumbers, IsCommandInForm};
+ghost use Rattle.schedule_text.specs.schedule_model.Runs.{Stage as ModelStage, Waiting, Running, IsBad};
+ghost use Rattle.schedule_text.specs.schedule_model.Step.{HasCloneNumbers, IsCommandInForm};
 ghost use Rattle.net_world.specs.world_commands.Worlds.{IsStanding, Stepped};
-ghost use Rattle.schedule_model.specs.WorldStep.{step_limit};
+ghost use Rattle.schedule_text.specs.schedule_model.WorldStep.{step_limit};
 ghost use Rattle.mld_replay.specs.BankFaults.{ComeBackWell};
 ghost use Rattle.mld_replay.specs.BanksLeft.{IsDueAt};
 ghost use Rattle.mld_replay.specs.Stops.{StopBringsBack, StopLeaves, StopLeavesAtLine, LeavesAtStop};

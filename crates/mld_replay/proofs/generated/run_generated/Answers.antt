@@ -2,7 +2,7 @@ use Rattle.std.proofs.Common.{◌<◌, ◌+◌, ◌^◌, ℕ, List, Option, None
 use Rattle.mld_io.specs.Lines.{lines_of}
 use Rattle.schedule_generator.specs.Generated.{generated}
 use Rattle.schedule_generator.proofs.GeneratedText.{generated_text}
-use Rattle.schedule_model.specs.Runs.{Verdict}
+use Rattle.schedule_text.specs.schedule_model.Runs.{Verdict}
 use Rattle.mld_replay.specs.Ran.{ReplayEnds, says_of}
 use Rattle.mld_replay.specs.declared.run.RunFault.TheVariants as faults
 use Rattle.mld_replay.proofs.MeterLemmas.{back_same}

@@ -5,7 +5,7 @@ use Rattle.input_lines.proofs.TakenLemmas as input
 use Rattle.input_lines.proofs.TakenLemmas.{end_first, end_more, end_cut, end_none, takes_some, end_of_line, advanced, read_well}
 use Rattle.mld_replay.proofs.RunLemmas.{under_way_first, under_way_more, whole_first, whole_of_way, line_there, none_there, front_of_reply, stops_bad_at, stops_large, breaks_off, finishes, ends_waiting_at, on_ok, err_same, ends_reading, ends_stopped, ends_writing, ends_lines, reading_replays, line_replays, writing_replays, end_replays, reads_counted, writes_counted, reads_same, writes_same, not_of_reading, not_of_writing, reading_not_writing, line_not_reading, line_not_writing, writing_not_reading, end_not_reading, end_not_writing}
 use Rattle.mld_io.specs.Lines.{lines_of}
-use Rattle.schedule_model.specs.Runs.{Stage, Waiting}
+use Rattle.schedule_text.specs.schedule_model.Runs.{Stage, Waiting}
 use Rattle.mld_replay.specs.BanksLeft.{AreLeftAmid}
 use Rattle.mld_replay.specs.Ran.{short_amid}
 use Rattle.mld_replay.specs.Replaying.{says_by, run_fault_of_input, run_fault_of_write}

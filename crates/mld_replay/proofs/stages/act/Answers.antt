@@ -1,4 +1,4 @@
-use Rattle.schedule_model.specs.Runs.{IsBad}
+use Rattle.schedule_text.specs.schedule_model.Runs.{IsBad}
 use Rattle.mld_replay.proofs.StageLemmas.{running_stage}
 use Rattle.std.proofs.Common.{sym}
 use Rattle.mld_replay.specs.Stages.{banks_of_stage}

@@ -1,4 +1,4 @@
-use Rattle.schedule_model.specs.Runs.{Running}
+use Rattle.schedule_text.specs.schedule_model.Runs.{Running}
 use Rattle.mld_replay.specs.declared.stages.Stage.TheVariants as stages
 use Rattle.mld_replay.proofs.StageLemmas.{commanded_all, spells_read, nothing_said}
 use Rattle.net_world.specs.world_commands.WorldBanks.{banks_of}

@@ -1,6 +1,6 @@
 use Rattle.std.proofs.Common.{◌∙◌, ◌++◌, ◌∷◌, ap, List, ℕ, arith}
 use Rattle.mld_model.specs.Reply.{PropertySet}
-use Rattle.schedule_model.specs.ReplyText.{reply_text}
+use Rattle.schedule_text.specs.schedule_model.ReplyText.{reply_text}
 use Rattle.mld_replay.proofs.StageLemmas.{property_set, property_steps}
 use Rattle.std.proofs.lemmas.Result.{err_from_is_err_and}
 use Rattle.mld_replay.specs.Stages.{banks_of_stage}

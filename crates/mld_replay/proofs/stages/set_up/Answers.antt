@@ -1,5 +1,5 @@
 use Rattle.std.proofs.Common.{◌∙◌, ◌++◌, ap, List, ℕ}
-use Rattle.schedule_model.specs.ReplyText.{reply_text}
+use Rattle.schedule_text.specs.schedule_model.ReplyText.{reply_text}
 use Rattle.mld_model.specs.Reply.{Ready}
 use Rattle.mld_replay.proofs.StageLemmas.{set_up, still_waits, waiting_count}
 use Rattle.mld_replay.proofs.stages.set_up.Goals as goal

@@ -1,6 +1,6 @@
 use Rattle.std.proofs.Common.{List, ℕ, subst}
 use Rattle.std.proofs.lemmas.Result.{err_from_is_err_and}
-use Rattle.schedule_model.specs.Step.{number_of_clone}
+use Rattle.schedule_text.specs.schedule_model.Step.{number_of_clone}
 use Rattle.net_world.specs.world_commands.WorldBanks.{banks_of}
 use Rattle.net_world.specs.world_commands.Worlds.{Stepped}
 use Rattle.mld_replay.proofs.MeterLemmas.{world_stops}
