@@ -9,6 +9,7 @@ pub mod KeptLaws
 pub mod KeptRows
 pub mod LedRows
 pub mod MadeOnce
+pub mod NothingAsked
 pub mod NumberedRows
 pub mod NumberedTriples
 pub mod RefusedRows

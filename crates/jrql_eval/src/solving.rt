@@ -1,8 +1,9 @@
 //! The solutions of a group.
-ghost use Rattle.std.specs.Prelude.{◌≡◌, ◌<◌, ◌≤◌, length, IfOk, OnOk, IsErrOf};
+ghost use Rattle.std.specs.Prelude.{◌≡◌, ◌<◌, ◌≤◌, ◌∷◌, [], length, IfOk, OnOk, IsErrOf};
 ghost use Rattle.mld_ops.specs.Present.{present};
 ghost use Rattle.jrql_ast.specs.InForm.{IsGroupInForm, variables_of};
 ghost use Rattle.jrql_ast.specs.QueryAnswers.{IsSolutions, IsSortingOf, found, row_cmp, solution_limit};
+ghost use Rattle.jrql_eval.specs.Evaluating.{asks_nothing};
 ghost use Rattle.jrql_eval.specs.KeptValues.{KeepsFound, rows_numbered};
 
 use crate::bindings::Bindings;
@@ -26,6 +27,26 @@ fn variables_of(group: &Group) -> usize
     ensures { result ≡ variables_of group.now }
 {
     group.names.len() + group.hidden as usize
+}
+
+// Whether a group asks for nothing, as that of an update of one triple. It has one solution then, in which nothing is bound.
+fn asks_nothing(group: &Group) -> bool
+    requires { IsGroupInForm group.now }
+    ensures { result ≡ asks_nothing group.now }
+{
+    variables_of(group) == 0
+        && group.patterns.is_empty()
+        && group.branches.is_empty()
+        && group.filters.is_empty()
+}
+
+// That solution alone.
+fn empty_row(alloc: Global) -> Result<Vec<Row>, AllocError>
+    ensures { IfOk result (λ rows. rows.items ≡ [] ∷ []) }
+{
+    let mut rows = Vec::with_capacity(alloc, 1)?;
+    rows.push(Row::new(alloc))?;
+    Ok(rows)
 }
 
 /// Keeps the solutions of a group, in whatever order.
@@ -72,6 +93,10 @@ pub fn solutions(alloc: Global, graph: &Graph, group: &Group) -> Result<Vec<Row>
     ensures too_many { IsErrOf result EvalFault.TooMany
         → solution_limit < length (found (present graph.now.pairs) group.now) }
 {
+    if asks_nothing(group) {
+        let rows = empty_row(alloc)?;
+        return Ok(rows);
+    }
     let columns = columns(alloc, group.names.as_slice(), group.hidden)?;
     let mut kept = no_rows(alloc, graph, None, false);
     find_rows(alloc, group, &mut kept)?;

@@ -1,11 +1,24 @@
 use Rattle.std.proofs.Common.{◌∙◌, List, Option, None, false, ℕ, ap, subst, sym}
 use Rattle.rdf_terms.specs.declared.terms.Term.{Term}
-use Rattle.jrql_ast.specs.QueryAnswers.{IsSortingOf, row_cmp}
+use Rattle.mld_ops.specs.Present.{present}
+use Rattle.jrql_ast.specs.QueryAnswers.{IsSolutions, IsSortingOf, row_cmp}
 use Rattle.jrql_eval.specs.ColumnOrder.{AreColumnsOf}
 use Rattle.jrql_eval.specs.KeptValues.{rows_numbered}
 use Rattle.std.proofs.lemmas.Result.{err_from_is_err_and}
 use Rattle.jrql_eval.proofs.KeptAnswers.{answered_fault, answered_few, solutions_kept}
+use Rattle.jrql_eval.proofs.NothingAsked.{nothing_few, nothing_solved}
 use Rattle.jrql_eval.proofs.solving.solutions.Goals as goal
+
+pub returns-then-asks_nothing-clause-rows : goal.returns-then-asks_nothing-clause-rows
+returns-then-asks_nothing-clause-rows c =
+    let graph = present c.args.graph.now.pairs in
+    let group = c.args.group.now in
+    subst (λ (rows : List (List (Option Term))). IsSolutions graph group rows) (sym c.in_ok-rows.ensures)
+    (nothing_solved graph group (sym c.asks_nothing.ensures ∙ c.if-asks_nothing.true))
+
+pub returns-then-asks_nothing-clause-few : goal.returns-then-asks_nothing-clause-few
+returns-then-asks_nothing-clause-few c =
+    nothing_few (present c.args.graph.now.pairs) c.args.group.now (sym c.asks_nothing.ensures ∙ c.if-asks_nothing.true)
 
 pub returns-clause-rows : goal.returns-clause-rows
 returns-clause-rows c =
