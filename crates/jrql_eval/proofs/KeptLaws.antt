@@ -28,6 +28,7 @@ use Rattle.jrql_eval.specs.declared.searching.Ending.{Ending}
 use Rattle.jrql_eval.specs.Bindings.{BindingsValue, FindsFor}
 use Rattle.jrql_eval.specs.Evaluating.{IsBinding, led_from, led_to}
 use Rattle.jrql_eval.specs.KeptValues.{IsEmptyKept, KeepsFound, KeepsEachFound, KeepsRows, agree_numbered, rows_numbered, rows_of, taken}
+use Rattle.jrql_eval.proofs.NumberedRows.{some_there}
 use Rattle.jrql_eval.proofs.SearchSteps.{led_by}
 
 -- ---- rows with others added
@@ -192,10 +193,6 @@ pub record AgreesSo (pattern : PatternTriple) (numbers : TermNumbers) (row : Bin
   pub agrees : agree pattern triple row.row ≡ Some next
   pub so : agree_numbered row.graph pattern row.row numbers ≡ Some next
 
-some_there : {X : Type 0} (o : Option X) → IsSome o → (x : X) × (o ≡ Some x)
-some_there None h = absurd (true≢false (sym h))
-some_there (Some x) h = (x, refl)
-
 binding_kept : (o : Option (List (Option Term))) (row : List (Option Term)) → IsBinding o true row → o ≡ Some row
 binding_kept None row b = absurd (true≢false b)
 binding_kept (Some bound) row b = ap Some (sym b.1)
@@ -204,16 +201,12 @@ binding_lost : (o : Option (List (Option Term))) (row : List (Option Term)) → 
 binding_lost None row b = refl
 binding_lost (Some bound) row b = absurd (true≢false (sym b.0))
 
-module _ (pattern : PatternTriple) (numbers : TermNumbers) (row copy : BindingsValue) (next : List (Option Term)) (b : Bool) (same : copy ≡ row) (some : IsSome (triple_numbered row.graph numbers))
-    (bound : (triple : Triple) → triple_numbered copy.graph numbers ≡ Some triple → IsBinding (agree pattern triple copy.row) b next) where
-  bound_here : (triple : Triple) → triple_numbered row.graph numbers ≡ Some triple → IsBinding (agree pattern triple row.row) b next
-  bound_here =
-      subst (λ (z : BindingsValue). (triple : Triple) → triple_numbered z.graph numbers ≡ Some triple → IsBinding (agree pattern triple z.row) b next) same bound
-
+module _ (pattern : PatternTriple) (numbers : TermNumbers) (row : BindingsValue) (next : List (Option Term)) (b : Bool) (some : IsSome (triple_numbered row.graph numbers))
+    (bound : (triple : Triple) → triple_numbered row.graph numbers ≡ Some triple → IsBinding (agree pattern triple row.row) b next) where
   pub numbers_agree : b ≡ true → AgreesSo pattern numbers row next
   numbers_agree t =
       let there = some_there (triple_numbered row.graph numbers) some in
-      let e = binding_kept (agree pattern there.0 row.row) next (subst (λ (z : Bool). IsBinding (agree pattern there.0 row.row) z next) t (bound_here there.0 there.1)) in record {
+      let e = binding_kept (agree pattern there.0 row.row) next (subst (λ (z : Bool). IsBinding (agree pattern there.0 row.row) z next) t (bound there.0 there.1)) in record {
         triple = there.0;
         agrees = e;
         so = ap (option_and_then (λ triple. agree pattern triple row.row)) there.1 ∙ e;
@@ -223,7 +216,7 @@ module _ (pattern : PatternTriple) (numbers : TermNumbers) (row copy : BindingsV
   numbers_differ f =
       let there = some_there (triple_numbered row.graph numbers) some in
       ap (option_and_then (λ triple. agree pattern triple row.row)) there.1
-      ∙ binding_lost (agree pattern there.0 row.row) next (subst (λ (z : Bool). IsBinding (agree pattern there.0 row.row) z next) f (bound_here there.0 there.1))
+      ∙ binding_lost (agree pattern there.0 row.row) next (subst (λ (z : Bool). IsBinding (agree pattern there.0 row.row) z next) f (bound there.0 there.1))
 
 -- ---- from nothing on
 module _ (graph : GraphValue) (columns : Option (List ℕ)) (distinct : Bool) (start : Kept) (found : List (List (Option Term))) (e : IsEmptyKept graph columns distinct start) where

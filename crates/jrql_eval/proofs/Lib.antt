@@ -4,6 +4,7 @@ pub mod ColumnLaws
 pub mod DescribeLaws
 pub mod EachOnce
 pub mod EffectsByPlan
+pub mod FreeLaws
 pub mod KeptAnswers
 pub mod KeptLaws
 pub mod KeptRows

@@ -12,6 +12,11 @@ use Rattle.jrql_ast.specs.Solutions.{is_same_term, value_of, bind_from}
 use Rattle.jrql_ast.proofs.BoundSlots.{same_refl, none_some}
 use Rattle.jrql_eval.specs.Bindings.{AreOwnNumbers, BindsNumber, row_numbered}
 use Rattle.jrql_eval.specs.Evaluating.{IsBinding}
+use Rattle.jrql_eval.specs.Unbinding.{BindsFree, cleared, if_free}
+
+pub some_there : {X : Type 0} (o : Option X) → IsSome o → (x : X) × (o ≡ Some x)
+some_there None h = absurd (true≢false (sym h))
+some_there (Some x) h = (x, refl)
 
 has_at : (numbers : List (Option ℕ)) (v n : ℕ) → get_or numbers v None ≡ Some n → Has numbers (Some n)
 has_at [] v n e = none_some e
@@ -56,6 +61,22 @@ module _ (graph : GraphValue) where
   pub none_own : (places : ℕ) → StandForOwn graph → AreOwnNumbers graph (replicate places None)
   none_own places own = record { named = λ n h. absurd (none_has places n h); own = own }
 
+  -- where a place is made empty
+  pub cleared_numbered : (old new : List (Option ℕ)) (v : Option ℕ) → new ≡ cleared v old → row_numbered graph new ≡ cleared v (row_numbered graph old)
+  cleared_numbered old new None e = ap (row_numbered graph) e
+  cleared_numbered old new (Some i) e = ap (row_numbered graph) e ∙ map-set (option_and_then (term_numbered graph)) old i None
+
+  pub cleared_own : (old new : List (Option ℕ)) (v : Option ℕ) → AreOwnNumbers graph old → new ≡ cleared v old → AreOwnNumbers graph new
+  cleared_own old new None own e = subst (AreOwnNumbers graph) (sym e) own
+  cleared_own old new (Some i) own e =
+      subst (AreOwnNumbers graph) (sym e) (record {
+        named = λ n h. elim (has_set old i None (Some n) h) [
+          | inl none ↦ none_some none
+          | inr there ↦ own.named n there
+        ];
+        own = own.own;
+      })
+
   -- once a number is bound, or isn't
   module _ (old new : List (Option ℕ)) (v number : ℕ) (agreed : Bool) (own : AreOwnNumbers graph old) where
     pub bound_own : (o : Option ℕ) → IsSome (term_numbered graph number) → BindsNumber o v number old agreed new → AreOwnNumbers graph new
@@ -73,6 +94,22 @@ module _ (graph : GraphValue) where
     bound_places None b =
         length-map new (option_and_then (term_numbered graph)) ∙ ap length b.1 ∙ length-set old v (Some number) ∙ sym (length-map old (option_and_then (term_numbered graph)))
     bound_places (Some bound) b = ap (λ l. length (row_numbered graph l)) b.1
+
+    pub bound_free : (o : Option ℕ) → get_or old v None ≡ o → IsSome (term_numbered graph number) → BindsNumber o v number old agreed new
+        → BindsFree (if_free v (value_of v (row_numbered graph old))) (row_numbered graph old) (row_numbered graph new)
+    bound_free None e some b =
+        let term = some_there (term_numbered graph number) some in
+        subst (λ (o : Option Term). BindsFree (if_free v o) (row_numbered graph old) (row_numbered graph new))
+        (sym (ap (option_and_then (term_numbered graph)) e) ∙ row_at old v)
+        (term.0, ap (row_numbered graph) b.1 ∙ map-set (option_and_then (term_numbered graph)) old v (Some number) ∙ ap (set (row_numbered graph old) v) term.1)
+    bound_free (Some bound) e some b =
+        subst (λ (o : Option Term). BindsFree (if_free v o) (row_numbered graph old) (row_numbered graph new))
+        (sym (ap (option_and_then (term_numbered graph)) e) ∙ row_at old v)
+        (kept (term_numbered graph bound) (own.named bound (has_at old v bound e)) (ap (row_numbered graph) b.1))
+      where
+        kept : (o : Option Term) → IsSome o → row_numbered graph new ≡ row_numbered graph old → BindsFree (if_free v o) (row_numbered graph old) (row_numbered graph new)
+        kept None there same = absurd (true≢false (sym there))
+        kept (Some x) there same = same
 
     module _ (term : Term) (named : term_numbered graph number ≡ Some term) where
       row_bound : IsBinding (Some (row_numbered graph old)) true (row_numbered graph old)

@@ -7,3 +7,4 @@ pub mod KeptValues
 pub mod PlanEffects
 pub mod RowFronts
 pub mod RowFrontLaws
+pub mod Unbinding

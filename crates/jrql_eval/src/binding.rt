@@ -1,10 +1,11 @@
-//! What a pattern's variables become where it is a triple.
+//! What a pattern's variables become where it is a triple, and how they are unbound again.
 ghost use Rattle.std.specs.Prelude.{◌≡◌, Some, IsSome, length};
 ghost use Rattle.rdf_terms.specs.declared.terms.Term.{Term};
 ghost use Rattle.rdf_terms.specs.declared.terms.Triple.{Triple};
 ghost use Rattle.graph_index.specs.Numbered.{term_numbered, triple_numbered};
-ghost use Rattle.jrql_ast.specs.Solutions.{bind, agree, is_same_term};
+ghost use Rattle.jrql_ast.specs.Solutions.{bind, agree, is_same_term, value_of};
 ghost use Rattle.jrql_eval.specs.Evaluating.{IsBinding};
+ghost use Rattle.jrql_eval.specs.Unbinding.{BindsFree, all_cleared, free_variable, free_variables, if_free};
 
 use crate::bindings::Bindings;
 use graph_index::{Graph, TermNumbers};
@@ -28,6 +29,7 @@ fn bind_slot(slot: &Slot, number: u32, row: &mut Bindings<'_>) -> bool
     ensures places { length row.new.row ≡ length row.old.row }
     ensures bound { (term : Term) → term_numbered row.old.graph number ≡ Some term
         → IsBinding (bind slot.now term row.old.row) result row.new.row }
+    ensures free { BindsFree (free_variable row.old.row slot.now) row.old.row row.new.row }
 {
     match slot {
         Slot::Term(given) => is_numbered(row.graph(), number, given),
@@ -36,7 +38,8 @@ fn bind_slot(slot: &Slot, number: u32, row: &mut Bindings<'_>) -> bool
     }
 }
 
-/// Whether a pattern may be the triple of these numbers in a row. Its variables have their values then.
+/// Whether a pattern may be the triple of these numbers in a row. Its variables have their values then. Whether or not, the row is as it
+/// was once those that were free are unbound.
 pub(crate) fn bind_pattern(
     pattern: &PatternTriple,
     numbers: &TermNumbers,
@@ -47,12 +50,65 @@ pub(crate) fn bind_pattern(
     ensures places { length row.new.row ≡ length row.old.row }
     ensures bound { (triple : Triple) → triple_numbered row.old.graph numbers.now ≡ Some triple
         → IsBinding (agree pattern.now triple row.old.row) result row.new.row }
+    ensures back { all_cleared (free_variables pattern.now row.old.row) row.new.row ≡ row.old.row }
 {
-    if !bind_slot(&pattern.s, numbers.s, row) {
+    let subject = bind_slot(&pattern.s, numbers.s, row);
+    if !subject {
         return false;
     }
-    if !bind_slot(&pattern.p, numbers.p, row) {
+    let predicate = bind_slot(&pattern.p, numbers.p, row);
+    if !predicate {
         return false;
     }
     bind_slot(&pattern.o, numbers.o, row)
+}
+
+/// The variables of a pattern that a row hasn't bound, by the places where they stand.
+#[derive(Clone, Copy)]
+pub(crate) struct FreeVariables {
+    pub(crate) s: Option<u16>,
+    pub(crate) p: Option<u16>,
+    pub(crate) o: Option<u16>,
+}
+
+// A variable, where a row hasn't bound it.
+fn if_free(variable: u16, row: &Bindings<'_>) -> Option<u16>
+    ensures { result ≡ if_free variable (value_of variable row.now.row) }
+{
+    match row.number(variable as usize) {
+        Some(_) => None,
+        None => Some(variable),
+    }
+}
+
+// The variable of a slot, where a row hasn't bound it.
+fn free_variable(slot: &Slot, row: &Bindings<'_>) -> Option<u16>
+    ensures { result ≡ free_variable row.now.row slot.now }
+{
+    match slot {
+        Slot::Term(_) => None,
+        Slot::Var(variable) => if_free(*variable, row),
+        Slot::Fresh(_) => None,
+    }
+}
+
+/// The variables of a pattern that a row hasn't bound.
+pub(crate) fn free_variables(pattern: &PatternTriple, row: &Bindings<'_>) -> FreeVariables
+    ensures { result ≡ free_variables pattern.now row.now.row }
+{
+    FreeVariables {
+        s: free_variable(&pattern.s, row),
+        p: free_variable(&pattern.p, row),
+        o: free_variable(&pattern.o, row),
+    }
+}
+
+/// Unbinds these variables. It takes no memory.
+pub(crate) fn unbind_all(free: &FreeVariables, row: &mut Bindings<'_>)
+    ensures graph { row.new.graph ≡ row.old.graph }
+    ensures unbound { row.new.row ≡ all_cleared free.now row.old.row }
+{
+    row.unbind(free.o);
+    row.unbind(free.p);
+    row.unbind(free.s);
 }

@@ -7,6 +7,7 @@ ghost use Rattle.graph_index.specs.Numbered.{term_numbered};
 ghost use Rattle.jrql_ast.specs.Solutions.{value_of, bind_from};
 ghost use Rattle.jrql_eval.specs.Bindings.{BindsNumber};
 ghost use Rattle.jrql_eval.specs.Evaluating.{IsBinding};
+ghost use Rattle.jrql_eval.specs.Unbinding.{BindsFree, cleared, if_free};
 
 use graph_index::Graph;
 use jrql_filters::Values;
@@ -36,12 +37,21 @@ pub(crate) fn number_at(place: usize, numbers: &[Option<u32>]) -> Option<u32>
     }
 }
 
-// Puts a number at a place.
-fn put_number(place: usize, number: u32, numbers: &mut Vec<Option<u32>>)
-    ensures { numbers.new.items ≡ slice_set numbers.old.items place (Some number) }
+// Puts a number at a place, or none.
+fn put_number(place: usize, number: Option<u32>, numbers: &mut Vec<Option<u32>>)
+    ensures { numbers.new.items ≡ slice_set numbers.old.items place number }
 {
     if place < numbers.len() {
-        numbers[place] = Some(number);
+        numbers[place] = number;
+    }
+}
+
+// Leaves a place without a number, where one is named.
+fn clear_number(place: Option<u16>, numbers: &mut Vec<Option<u32>>)
+    ensures { numbers.new.items ≡ cleared place numbers.old.items }
+{
+    if let Some(place) = place {
+        put_number(place as usize, None, numbers);
     }
 }
 
@@ -53,7 +63,7 @@ fn bind_number(place: usize, number: u32, numbers: &mut Vec<Option<u32>>) -> boo
     match number_at(place, numbers) {
         Some(bound) => bound == number,
         None => {
-            put_number(place, number, numbers);
+            put_number(place, Some(number), numbers);
             true
         }
     }
@@ -123,26 +133,17 @@ impl<'a> Bindings<'a> {
         ensures places { length self.new.row ≡ length self.old.row }
         ensures bound { (term : Term) → term_numbered self.old.graph number ≡ Some term
             → IsBinding (bind_from (value_of variable self.old.row) variable term self.old.row) result self.new.row }
+        ensures free { BindsFree (if_free variable (value_of variable self.old.row)) self.old.row self.new.row }
     {
         bind_number(variable, number, &mut self.numbers)
     }
 
-    /// Binds what others have bound, and nothing else. It takes no memory.
-    pub(crate) fn set_as(&mut self, other: &Bindings<'_>)
-        requires graph { self.old.graph ≡ other.now.graph }
-        requires places { length self.old.row ≡ length other.now.row }
-        ensures { self.new ≡ other.now }
+    /// Unbinds a variable, where one is given.
+    pub(crate) fn unbind(&mut self, variable: Option<u16>)
+        ensures graph { self.new.graph ≡ self.old.graph }
+        ensures unbound { self.new.row ≡ cleared variable self.old.row }
     {
-        self.numbers.copy_from_slice(&other.numbers);
-    }
-
-    /// A copy, over the same graph.
-    pub(crate) fn copy(&self, alloc: Global) -> Result<Bindings<'a>, AllocError>
-        ensures { IfOk result (λ copy. copy ≡ self.now) }
-    {
-        let numbers = Vec::from_slice(alloc, &self.numbers)?;
-        let graph = self.graph;
-        Ok(Bindings { graph, numbers })
+        clear_number(variable, &mut self.numbers);
     }
 }
 

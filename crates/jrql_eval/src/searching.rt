@@ -8,8 +8,9 @@ ghost use Rattle.jrql_ast.specs.Solutions.{matches_from};
 ghost use Rattle.jrql_plans.specs.PlannedGroups.{AreTestsOf, IsBranchReady, planned_in};
 ghost use Rattle.jrql_eval.specs.Evaluating.{IsEndReady, IsReadyBehind, all_hold, ended_by, led_to, led_from};
 ghost use Rattle.jrql_eval.specs.KeptValues.{KeepsFound, agree_numbered};
+ghost use Rattle.jrql_eval.specs.Unbinding.{free_variables};
 
-use crate::binding::bind_pattern;
+use crate::binding::{FreeVariables, bind_pattern, free_variables, unbind_all};
 use crate::bindings::Bindings;
 use crate::faults::EvalFault;
 use crate::kept::{Kept, keep};
@@ -51,13 +52,14 @@ pub(crate) fn search(
     alloc: Global,
     ending: &Ending<'_>,
     stages: &[PatternStage<'_>],
-    row: &Bindings<'_>,
+    row: &mut Bindings<'_>,
     kept: &mut Kept<'_>,
 ) -> Result<(), EvalFault>
-    requires ready { IsEndReady ending.now stages.now row.now.row }
-    requires graphs { row.now.graph ≡ kept.old.graph.now }
+    requires ready { IsEndReady ending.now stages.now row.old.row }
+    requires graphs { row.old.graph ≡ kept.old.graph.now }
     requires few { kept.old.count ≤ solution_limit }
-    ensures { KeepsFound kept.old (led_to (present row.now.graph.pairs) ending.now stages.now row.now.row) result kept.new }
+    ensures rows { KeepsFound kept.old (led_to (present row.old.graph.pairs) ending.now stages.now row.old.row) result kept.new }
+    ensures same { row.new ≡ row.old }
 {
     match stages.split_first() {
         None => search_branches(alloc, ending, row, kept),
@@ -73,14 +75,15 @@ pub(crate) fn search(
 fn search_branches(
     alloc: Global,
     ending: &Ending<'_>,
-    row: &Bindings<'_>,
+    row: &mut Bindings<'_>,
     kept: &mut Kept<'_>,
 ) -> Result<(), EvalFault>
-    requires ready { IsEndReady ending.now [] row.now.row }
-    requires graphs { row.now.graph ≡ kept.old.graph.now }
+    requires ready { IsEndReady ending.now [] row.old.row }
+    requires graphs { row.old.graph ≡ kept.old.graph.now }
     requires few { kept.old.count ≤ solution_limit }
-    ensures { KeepsFound kept.old (filter (all_hold ending.now.filters.now)
-        (ended_by (present row.now.graph.pairs) ending.now.branches.now row.now.row)) result kept.new }
+    ensures rows { KeepsFound kept.old (filter (all_hold ending.now.filters.now)
+        (ended_by (present row.old.graph.pairs) ending.now.branches.now row.old.row)) result kept.new }
+    ensures same { row.new ≡ row.old }
 {
     if ending.branches.is_empty() {
         return keep_if(alloc, ending.filters, row, kept);
@@ -97,15 +100,16 @@ fn search_branch(
     alloc: Global,
     filters: &[Filter],
     branch: &BranchPlan<'_>,
-    row: &Bindings<'_>,
+    row: &mut Bindings<'_>,
     kept: &mut Kept<'_>,
 ) -> Result<(), EvalFault>
-    requires ready { IsBranchReady row.now.row branch.now }
+    requires ready { IsBranchReady row.old.row branch.now }
     requires tests { AreTestsOf filters.now branch.now.stages.items }
-    requires graphs { row.now.graph ≡ kept.old.graph.now }
+    requires graphs { row.old.graph ≡ kept.old.graph.now }
     requires few { kept.old.count ≤ solution_limit }
-    ensures { KeepsFound kept.old (filter (all_hold filters.now)
-        (matches_from (present row.now.graph.pairs) (planned_in branch.now) row.now.row)) result kept.new }
+    ensures rows { KeepsFound kept.old (filter (all_hold filters.now)
+        (matches_from (present row.old.graph.pairs) (planned_in branch.now) row.old.row)) result kept.new }
+    ensures same { row.new ≡ row.old }
 {
     if !are_present(&branch.checks, row) {
         return Ok(());
@@ -125,26 +129,27 @@ fn search_each(
     stage: &PatternStage<'_>,
     rest: &[PatternStage<'_>],
     found: &[TermNumbers],
-    row: &Bindings<'_>,
+    row: &mut Bindings<'_>,
     kept: &mut Kept<'_>,
 ) -> Result<(), EvalFault>
-    requires ready { IsEndReady ending.now (stage.now ∷ rest.now) row.now.row }
-    requires there { All (λ numbers. IsSome (triple_numbered row.now.graph numbers)) found.now }
-    requires graphs { row.now.graph ≡ kept.old.graph.now }
+    requires ready { IsEndReady ending.now (stage.now ∷ rest.now) row.old.row }
+    requires there { All (λ numbers. IsSome (triple_numbered row.old.graph numbers)) found.now }
+    requires graphs { row.old.graph ≡ kept.old.graph.now }
     requires few { kept.old.count ≤ solution_limit }
-    ensures { KeepsFound kept.old
-        (flat_map (λ numbers. led_from (present row.now.graph.pairs) ending.now stage.now rest.now
-        (agree_numbered row.now.graph stage.now.pattern.now row.now.row numbers)) found.now)
+    ensures rows { KeepsFound kept.old
+        (flat_map (λ numbers. led_from (present row.old.graph.pairs) ending.now stage.now rest.now
+        (agree_numbered row.old.graph stage.now.pattern.now row.old.row numbers)) found.now)
         result kept.new }
+    ensures same { row.new ≡ row.old }
 {
-    let mut next = row.copy(alloc)?;
+    let free = free_variables(stage.pattern, row);
     for numbers in found {
-        search_behind(alloc, ending, stage, rest, numbers, row, &mut next, kept)?;
+        search_behind(alloc, ending, stage, rest, numbers, &free, row, kept)?;
     }
     Ok(())
 }
 
-// The same, once the first stage is a triple. The row is had a second time, to bind it in.
+// The same, once the first stage is a triple. Which of its variables are free is known.
 #[cycle(search)]
 fn search_behind(
     alloc: Global,
@@ -152,26 +157,26 @@ fn search_behind(
     stage: &PatternStage<'_>,
     rest: &[PatternStage<'_>],
     numbers: &TermNumbers,
-    row: &Bindings<'_>,
-    next: &mut Bindings<'_>,
+    free: &FreeVariables,
+    row: &mut Bindings<'_>,
     kept: &mut Kept<'_>,
 ) -> Result<(), EvalFault>
-    requires ready { IsEndReady ending.now (stage.now ∷ rest.now) row.now.row }
-    requires there { IsSome (triple_numbered row.now.graph numbers.now) }
-    requires graphs { row.now.graph ≡ kept.old.graph.now }
+    requires ready { IsEndReady ending.now (stage.now ∷ rest.now) row.old.row }
+    requires there { IsSome (triple_numbered row.old.graph numbers.now) }
+    requires graphs { row.old.graph ≡ kept.old.graph.now }
+    requires free { free.now ≡ free_variables stage.now.pattern.now row.old.row }
     requires few { kept.old.count ≤ solution_limit }
-    requires same { next.old ≡ row.now }
-    ensures rows { KeepsFound kept.old (led_from (present row.now.graph.pairs) ending.now stage.now rest.now
-        (agree_numbered row.now.graph stage.now.pattern.now row.now.row numbers.now))
+    ensures rows { KeepsFound kept.old (led_from (present row.old.graph.pairs) ending.now stage.now rest.now
+        (agree_numbered row.old.graph stage.now.pattern.now row.old.row numbers.now))
         result kept.new }
-    ensures same { next.new ≡ row.now }
+    ensures same { row.new ≡ row.old }
 {
-    if !bind_pattern(stage.pattern, numbers, next) {
-        next.set_as(row);
+    if !bind_pattern(stage.pattern, numbers, row) {
+        unbind_all(free, row);
         return Ok(());
     }
-    let told = search_bound(alloc, ending, stage, rest, next, kept);
-    next.set_as(row);
+    let told = search_bound(alloc, ending, stage, rest, row, kept);
+    unbind_all(free, row);
     told
 }
 
@@ -182,14 +187,15 @@ fn search_bound(
     ending: &Ending<'_>,
     stage: &PatternStage<'_>,
     rest: &[PatternStage<'_>],
-    row: &Bindings<'_>,
+    row: &mut Bindings<'_>,
     kept: &mut Kept<'_>,
 ) -> Result<(), EvalFault>
-    requires ready { IsReadyBehind ending.now stage.now rest.now row.now.row }
-    requires graphs { row.now.graph ≡ kept.old.graph.now }
+    requires ready { IsReadyBehind ending.now stage.now rest.now row.old.row }
+    requires graphs { row.old.graph ≡ kept.old.graph.now }
     requires few { kept.old.count ≤ solution_limit }
-    ensures { KeepsFound kept.old
-        (led_from (present row.now.graph.pairs) ending.now stage.now rest.now (Some row.now.row)) result kept.new }
+    ensures rows { KeepsFound kept.old
+        (led_from (present row.old.graph.pairs) ending.now stage.now rest.now (Some row.old.row)) result kept.new }
+    ensures same { row.new ≡ row.old }
 {
     if !all_can_hold(&stage.tests, row) {
         return Ok(());

@@ -56,7 +56,7 @@ pub(crate) fn find_rows(alloc: Global, group: &Group, kept: &mut Kept<'_>) -> Re
     ensures { KeepsFound kept.old (found (present kept.old.graph.now.pairs) group.now) result kept.new }
 {
     let plan = plan_of(alloc, group)?;
-    let start = Bindings::unbound(alloc, kept.graph, variables_of(group))?;
+    let mut start = Bindings::unbound(alloc, kept.graph, variables_of(group))?;
     if !all_can_hold(&plan.tests, &start) {
         return Ok(());
     }
@@ -67,7 +67,7 @@ pub(crate) fn find_rows(alloc: Global, group: &Group, kept: &mut Kept<'_>) -> Re
         filters: group.filters.as_slice(),
         branches: &plan.branches,
     };
-    search(alloc, &ending, &plan.stages, &start, kept)
+    search(alloc, &ending, &plan.stages, &mut start, kept)
 }
 
 // Sorts rows by their values for these variables.

@@ -25,16 +25,18 @@ decreases-search_behind l = 4 * length l.rest.now + depth_behind l.ending.now.br
 abbrev pub decreases-search_bound : goal.decreases-search_bound
 decreases-search_bound l = 4 * length l.rest.now + depth_behind l.ending.now.branches.now + 2
 
--- what is kept is what comes of the branches so far
+-- what is kept is what comes of the branches so far, and the row is as it was
 abbrev pub invariant-search_branches-loop-branch : goal.invariant-search_branches-loop-branch
 invariant-search_branches-loop-branch l =
     KeepsEachFound l.initial.kept
-    (flat_map (λ branch. filter (all_hold l.ending.filters.now) (matches_from (present l.row.graph.pairs) (planned_in branch) l.row.row)) (take l.branch-index l.ending.branches.now)) l.kept
+    (flat_map (λ branch. filter (all_hold l.ending.filters.now) (matches_from (present l.initial.row.graph.pairs) (planned_in branch) l.initial.row.row)) (take l.branch-index l.ending.branches.now))
+    l.kept
+    × (l.row ≡ l.initial.row)
 
 -- and of the triples so far
 abbrev pub invariant-search_each-loop-numbers : goal.invariant-search_each-loop-numbers
 invariant-search_each-loop-numbers l =
     KeepsEachFound l.initial.kept
-    (flat_map (λ numbers. led_from (present l.row.graph.pairs) l.ending l.stage l.rest (agree_numbered l.row.graph l.stage.pattern.now l.row.row numbers)) (take l.numbers-index l.found))
+    (flat_map (λ numbers. led_from (present l.initial.row.graph.pairs) l.ending l.stage l.rest (agree_numbered l.initial.row.graph l.stage.pattern.now l.initial.row.row numbers)) (take l.numbers-index l.found))
     l.kept
-    × (l.next ≡ l.row)
+    × (l.row ≡ l.initial.row)

@@ -54,4 +54,4 @@ returns c =
     (passed_by (present start.graph.pairs) c.as_slice.result.now c.deref-3.result.now (matches_from (present start.graph.pairs) (planned c.deref-4.result.now) start.row)) led
     c.search.result c.search.new.kept
     (λ i. passed_by (present ((same_graph i).pairs)) (c.as_slice.ensures i) (c.deref-3.ensures.value i) (matches_from (present ((same_graph i).pairs)) (planned (c.deref-4.ensures.value i)) start.row))
-    c.search.ensures)
+    c.search.ensures.rows)

@@ -4,7 +4,8 @@ use Rattle.graph_index.specs.Numbered.{term_numbered}
 use Rattle.jrql_ast.specs.Solutions.{value_of, bind_from}
 use Rattle.jrql_eval.specs.Bindings.{BindingsValue, row_numbered}
 use Rattle.jrql_eval.specs.Evaluating.{IsBinding}
-use Rattle.jrql_eval.proofs.NumberedRows.{bound_number, bound_own, bound_places}
+use Rattle.jrql_eval.specs.Unbinding.{BindsFree, if_free}
+use Rattle.jrql_eval.proofs.NumberedRows.{bound_free, bound_number, bound_own, bound_places}
 use Rattle.jrql_eval.proofs.bindings.Bindings.bind.Goals as goal
 
 pub invariant_of-self : goal.invariant_of-self
@@ -28,3 +29,12 @@ returns-clause-places c =
     bound_places c.self.inside.graph.now c.self.inside.numbers.items c.bind_number.new.numbers.items c.args.variable c.args.number c.bind_number.result c.self.invariant
     (get_or c.self.inside.numbers.items c.args.variable None) c.bind_number.ensures
     ∙ ap (λ v. length v.row) c.self.view_is
+
+pub returns-clause-free : goal.returns-clause-free
+returns-clause-free c =
+    let old = c.self.inside.numbers.items in
+    let new = c.bind_number.new.numbers.items in
+    let graph = c.self.inside.graph.now in
+    subst (λ (v : BindingsValue). BindsFree (if_free c.args.variable (value_of c.args.variable v.row)) v.row (row_numbered graph new)) c.self.view_is
+    (bound_free graph old new c.args.variable c.args.number c.bind_number.result c.self.invariant (get_or old c.args.variable None) refl
+    (subst (λ (v : BindingsValue). IsSome (term_numbered v.graph c.args.number)) (sym c.self.view_is) c.requires) c.bind_number.ensures)
