@@ -58,10 +58,11 @@ pub fn summary_of_live<B: Banks>(
 ) -> Result<CloneSummary, AllocError>
     ensures { IfOk result (IsSummaryOf clone.now.local) }
 {
+    // The pairs come first: what their order takes is let go before the other lists are made.
+    let tagged = clone.tagged(alloc)?;
     let known = clone.known().to_list(alloc)?;
     let base = clone.base().to_list(alloc)?;
     let journal = ranges_of(alloc, clone.journal())?;
-    let tagged = clone.tagged(alloc)?;
     Ok(CloneSummary {
         state: State::Live,
         path: Some(clone.path()),
