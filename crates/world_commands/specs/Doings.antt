@@ -36,7 +36,7 @@ WhereUp Live Asks (states.Live clone) = Live clone
 
 -- nothing
 abbrev pub doing_nothing : WorkOnBanks
-doing_nothing = record { changes = λ old steps. ⊥; takes = λ asker give. ⊥; idles = λ state. Unit {0} }
+doing_nothing = record { changes = λ old steps. ⊥; takes = λ asker give. ⊥; opens = ⊥; idles = λ state. Unit {0} }
 
 -- ---- an opening
 
@@ -48,7 +48,7 @@ IsNotDown (states.Down device) = ⊥
 IsNotDown (states.Live clone) = Unit {0}
 
 abbrev pub doing_open : WorkOnBanks
-doing_open = record { changes = λ old steps. ⊥; takes = λ asker give. ⊥; idles = IsNotDown }
+doing_open = record { changes = λ old steps. ⊥; takes = λ asker give. ⊥; opens = Unit {0}; idles = IsNotDown }
 
 -- ---- an update
 
@@ -72,6 +72,7 @@ abbrev pub doing_update : UpdatePlan → WorkOnBanks
 doing_update plan = record {
   changes = λ old steps. AppendsDue old plan steps;
   takes = λ asker give. ⊥;
+  opens = ⊥;
   idles = WhereUp (λ old. UpdatesNone old plan) (λ asker. Unit {0});
 }
 
@@ -88,6 +89,7 @@ abbrev pub doing_receive : Message → WorkOnBanks
 doing_receive sent = record {
   changes = λ old steps. HasLeafToGive old sent × WouldReceive old sent steps;
   takes = λ asker leaf. (give : Give) × (sent ≡ message.JoinGive give) × (leaf ≡ give_value give) × (leaf.id ≡ asker.id);
+  opens = ⊥;
   idles = WhereUp (λ old. ReceivesNone old sent) (λ asker. GivesNone asker sent);
 }
 
@@ -96,6 +98,7 @@ abbrev pub doing_deliver : List Message → ℕ → WorkOnBanks
 doing_deliver messages number = record {
   changes = λ old steps. (sent : Message) × (numbered messages number ≡ Some sent) × (doing_receive sent).changes old steps;
   takes = λ asker give. (sent : Message) × (numbered messages number ≡ Some sent) × (doing_receive sent).takes asker give;
+  opens = ⊥;
   idles = λ state. (numbered messages number ≡ None) ⊎ ((sent : Message) × (numbered messages number ≡ Some sent) × (doing_receive sent).idles state);
 }
 
@@ -120,5 +123,6 @@ abbrev pub doing_keep : Keeping → WorkOnBanks
 doing_keep keeping = record {
   changes = λ old steps. (next : LocalClone) × IsKeepDue keeping old × KeepsLocally keeping old next × SwapsTo next steps;
   takes = λ asker give. ⊥;
+  opens = ⊥;
   idles = WhereUp (λ old. IsKeptAlready keeping old) (λ asker. Unit {0});
 }

@@ -1,5 +1,6 @@
 //! The command `ask`.
-ghost use Rattle.std.specs.Prelude.{◌<◌, vec_len, IfOk, IsOk};
+ghost use Rattle.std.specs.Prelude.{◌<◌, vec_len, IfOk};
+ghost use Rattle.std.specs.Result.{result_err};
 ghost use Rattle.crash_laws.specs.schedule_model.declared.Command.TheVariants as commands;
 ghost use Rattle.world_commands.specs.WorldParts.{KeepsDomain, HasFaultsOfParts, Does};
 ghost use Rattle.world_commands.specs.LeftBanks.{LeavesAt};
@@ -24,7 +25,7 @@ pub fn ask<B: CrashBanks>(
     ensures keeps { KeepsDomain B.meter number parts.old parts.new }
     ensures done { IfOk result (Does B.log parts.old (commands.Ask number) parts.new) }
     ensures faults { HasFaultsOfParts B.meter number parts.old parts.new result }
-    ensures left { LeavesAt B.log B.meter doing_nothing (IsOk result)
+    ensures left { LeavesAt B.log B.meter doing_nothing (result_err result)
         number parts.old.clones.items parts.new.clones.items }
 {
     match &parts.clones[usize::from(number)] {

@@ -1,5 +1,6 @@
 //! The commands `add`, `remove` and `update`.
-ghost use Rattle.std.specs.Prelude.{◌≡◌, ◌<◌, vec_len, map, None, IfOk, IsOk, OnOk};
+ghost use Rattle.std.specs.Prelude.{◌≡◌, ◌<◌, vec_len, map, None, IfOk, OnOk};
+ghost use Rattle.std.specs.Result.{result_err};
 ghost use Rattle.tree_clock.specs.Limits.{tick_limit};
 ghost use Rattle.tree_clock.specs.Clock.{ticks_of};
 ghost use Rattle.jrql_ast.specs.InForm.{IsPlanInForm};
@@ -40,7 +41,7 @@ pub fn add<B: CrashBanks>(
     ensures keeps { KeepsDomain B.meter number parts.old parts.new }
     ensures done { IfOk result (Does B.log parts.old (commands.Add number triple.now) parts.new) }
     ensures faults { HasFaultsOfParts B.meter number parts.old parts.new result }
-    ensures left { LeavesAt B.log B.meter (doing_update (insertion_of triple.now)) (IsOk result)
+    ensures left { LeavesAt B.log B.meter (doing_update (insertion_of triple.now)) (result_err result)
         number parts.old.clones.items parts.new.clones.items }
     ensures unsent { IsSilent result parts.old.messages.items parts.new.messages.items }
 {
@@ -60,7 +61,7 @@ pub fn remove<B: CrashBanks>(
     ensures keeps { KeepsDomain B.meter number parts.old parts.new }
     ensures done { IfOk result (Does B.log parts.old (commands.Remove number triple.now) parts.new) }
     ensures faults { HasFaultsOfParts B.meter number parts.old parts.new result }
-    ensures left { LeavesAt B.log B.meter (doing_update (deletion_of triple.now)) (IsOk result)
+    ensures left { LeavesAt B.log B.meter (doing_update (deletion_of triple.now)) (result_err result)
         number parts.old.clones.items parts.new.clones.items }
     ensures unsent { IsSilent result parts.old.messages.items parts.new.messages.items }
 {
@@ -81,7 +82,7 @@ pub fn update<B: CrashBanks>(
     ensures keeps { KeepsDomain B.meter number parts.old parts.new }
     ensures done { IfOk result (Does B.log parts.old (commands.Update number plan.now) parts.new) }
     ensures faults { HasFaultsOfParts B.meter number parts.old parts.new result }
-    ensures left { LeavesAt B.log B.meter (doing_update plan.now) (IsOk result)
+    ensures left { LeavesAt B.log B.meter (doing_update plan.now) (result_err result)
         number parts.old.clones.items parts.new.clones.items }
     ensures unsent { IsSilent result parts.old.messages.items parts.new.messages.items }
 {
@@ -105,7 +106,7 @@ fn update_live<B: CrashBanks>(
     ensures opened { OnOk result (StaysOpen clone.old clone.new) }
     ensures meter { MeterGoesOn (B.meter clone.old.banks) (B.meter clone.new.banks) }
     ensures faults { HasFaultsAt number (B.meter clone.old.banks) (B.meter clone.new.banks) result }
-    ensures left { LeavesState B.log B.meter (doing_update plan.now) (IsOk result)
+    ensures left { LeavesState B.log B.meter (doing_update plan.now) (result_err result)
         (kinds.Live clone.old) (kinds.Live clone.new) }
     ensures unsent { IsSilent result messages.old.items messages.new.items }
     ensures done { IfOk result (UpdatesAsReplied clone.old.local (map message_value messages.old.items)

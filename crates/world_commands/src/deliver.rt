@@ -1,5 +1,6 @@
 //! The command `deliver`.
-ghost use Rattle.std.specs.Prelude.{◌≡◌, ◌≢◌, ◌<◌, ◌^◌, ◌-◌, None, vec_len, map, option_copied, IfOk, IfErr, IsOk, OnOk};
+ghost use Rattle.std.specs.Prelude.{◌≡◌, ◌≢◌, ◌<◌, ◌^◌, ◌-◌, None, vec_len, map, option_copied, IfOk, IfErr, OnOk};
+ghost use Rattle.std.specs.Result.{result_err};
 ghost use Rattle.mld_ops.specs.Messages.{message_value, IsGoodMessage};
 ghost use Rattle.mld_model.specs.declared.CloneState.TheVariants as kinds;
 ghost use Rattle.crash_laws.specs.schedule_model.declared.Command.TheVariants as commands;
@@ -48,7 +49,7 @@ pub fn deliver<R: Threads + Sync, B: CrashBanks>(
     ensures keeps { KeepsDomain B.meter number parts.old parts.new }
     ensures done { IfOk result (Does B.log parts.old (commands.Deliver message number) parts.new) }
     ensures faults { HasFaultsOfParts B.meter number parts.old parts.new result }
-    ensures left { LeavesAt B.log B.meter (doing_deliver parts.old.messages.items message) (IsOk result)
+    ensures left { LeavesAt B.log B.meter (doing_deliver parts.old.messages.items message) (result_err result)
         number parts.old.clones.items parts.new.clones.items }
     ensures unsent { IsSilent result parts.old.messages.items parts.new.messages.items }
 {
@@ -87,7 +88,7 @@ fn receive_at<R: Threads + Sync, B: CrashBanks>(
         (map banks_of_state clones.old.items) (map banks_of_state clones.new.items) }
     ensures faults { HasFaultsFor number B.meter
         (map banks_of_state clones.old.items) (map banks_of_state clones.new.items) result }
-    ensures left { LeavesAt B.log B.meter (doing_receive message.now) (IsOk result)
+    ensures left { LeavesAt B.log B.meter (doing_receive message.now) (result_err result)
         number clones.old.items clones.new.items }
 {
     match &mut clones[usize::from(number)] {
@@ -113,7 +114,7 @@ fn receive_live<R: Threads + Sync, B: CrashBanks>(
     ensures opened { OnOk result (StaysOpenNext clone.old clone.new) }
     ensures meter { MeterGoesOn (B.meter clone.old.banks) (B.meter clone.new.banks) }
     ensures faults { HasFaultsAt number (B.meter clone.old.banks) (B.meter clone.new.banks) result }
-    ensures left { LeavesState B.log B.meter (doing_receive message.now) (IsOk result)
+    ensures left { LeavesState B.log B.meter (doing_receive message.now) (result_err result)
         (kinds.Live clone.old) (kinds.Live clone.new) }
 {
     match clone.receive(rt, alloc, message) {
@@ -151,7 +152,7 @@ fn receive_asking<R: Threads + Sync, B: CrashBanks>(
         (map banks_of_state clones.old.items) (map banks_of_state clones.new.items) }
     ensures faults { HasFaultsFor number B.meter
         (map banks_of_state clones.old.items) (map banks_of_state clones.new.items) result }
-    ensures left { LeavesAt B.log B.meter (doing_receive message.now) (IsOk result)
+    ensures left { LeavesAt B.log B.meter (doing_receive message.now) (result_err result)
         number clones.old.items clones.new.items }
 {
     let CloneState::Asking(asker) = take_state(clones, number) else {

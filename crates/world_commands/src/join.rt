@@ -1,5 +1,6 @@
 //! The command `join`.
-ghost use Rattle.std.specs.Prelude.{◌≡◌, ◌<◌, vec_len, map, IsTrue, IfOk, IfErr, IsOk};
+ghost use Rattle.std.specs.Prelude.{◌≡◌, ◌<◌, vec_len, map, IsTrue, IfOk, IfErr};
+ghost use Rattle.std.specs.Result.{result_err};
 ghost use Rattle.text_rules.specs.Domain.{is_domain};
 ghost use Rattle.mld_ops.specs.Messages.{message_value};
 ghost use Rattle.mld_model.specs.Local.{IsNamed};
@@ -34,7 +35,7 @@ pub fn join<B: CrashBanks>(
     ensures keeps { KeepsDomain B.meter number parts.old parts.new }
     ensures done { IfOk result (Does B.log parts.old (commands.Join number) parts.new) }
     ensures faults { HasFaultsOfParts B.meter number parts.old parts.new result }
-    ensures left { LeavesAt B.log B.meter doing_nothing (IsOk result)
+    ensures left { LeavesAt B.log B.meter doing_nothing (result_err result)
         number parts.old.clones.items parts.new.clones.items }
 {
     match &parts.clones[usize::from(number)] {

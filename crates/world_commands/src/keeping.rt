@@ -1,9 +1,10 @@
 //! The commands `compact` and `truncate`: what a clone keeps of its journal.
 ghost use Rattle.std.specs.Prelude.{◌≡◌, ◌≢◌, ◌<◌, ◌^◌, ◌-◌, ℕ, length, vec_len, None, IfOk, IsOk, IsErrOf, OnOk};
+ghost use Rattle.std.specs.Result.{result_err};
 ghost use Rattle.mld_io.specs.Arm.{Metered};
 ghost use Rattle.crash_laws.specs.journal_store.declared.faults.Why.{Why};
 ghost use Rattle.mld_model.specs.declared.CloneState.TheVariants as kinds;
-ghost use Rattle.world_commands.specs.KeptJournals.{keeping_command, KeepsBy, KeepsAs};
+ghost use Rattle.world_commands.specs.KeptJournals.{keeping_command, KeepsBy, KeepsAs, fault_of_keeping};
 ghost use Rattle.world_commands.specs.WorldBanks.{MeterGoesOn};
 ghost use Rattle.world_commands.specs.OneCall.{HasFaultsAt};
 ghost use Rattle.world_commands.specs.LeftBanks.{LeavesState, LeavesAt, IsSilent};
@@ -40,7 +41,7 @@ pub fn keep<B: CrashBanks>(
     ensures keeps { KeepsDomain B.meter number parts.old parts.new }
     ensures done { IfOk result (Does B.log parts.old (keeping_command number keeping) parts.new) }
     ensures faults { HasFaultsOfParts B.meter number parts.old parts.new result }
-    ensures left { LeavesAt B.log B.meter (doing_keep keeping) (IsOk result)
+    ensures left { LeavesAt B.log B.meter (doing_keep keeping) (result_err result)
         number parts.old.clones.items parts.new.clones.items }
     ensures unsent { IsSilent result parts.old.messages.items parts.new.messages.items }
 {
@@ -63,7 +64,7 @@ fn keep_live<B: CrashBanks>(
     ensures meter { MeterGoesOn (B.meter clone.old.banks) (B.meter clone.new.banks) }
     ensures faults { HasFaultsAt number (B.meter clone.old.banks) (B.meter clone.new.banks) result }
     ensures done { IfOk result (KeepsAs keeping clone.old clone.new) }
-    ensures left { LeavesState B.log B.meter (doing_keep keeping) (IsOk result)
+    ensures left { LeavesState B.log B.meter (doing_keep keeping) (result_err result)
         (kinds.Live clone.old) (kinds.Live clone.new) }
 {
     match kept(alloc, clone, keeping) {
@@ -90,7 +91,7 @@ fn kept<B: Banks>(
     ensures spent { ¬ IsErrOf result KeepFault.GenerationsSpent }
     ensures meter { (calls : ℕ) × Metered calls (B.meter clone.old.banks) (B.meter clone.new.banks) (IsOk result)
         (IsErrOf result KeepFault.Device) }
-    ensures left { LeavesState B.log B.meter (doing_keep keeping) (IsOk result)
+    ensures left { (number : ℕ) → LeavesState B.log B.meter (doing_keep keeping) (fault_of_keeping number result)
         (kinds.Live clone.old) (kinds.Live clone.new) }
 {
     match keeping {

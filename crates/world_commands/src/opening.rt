@@ -1,5 +1,6 @@
 //! The command `open`.
-ghost use Rattle.std.specs.Prelude.{◌<◌, vec_len, map, IsTrue, IfOk, IsOk};
+ghost use Rattle.std.specs.Prelude.{◌<◌, vec_len, map, IsTrue, IfOk};
+ghost use Rattle.std.specs.Result.{result_err};
 ghost use Rattle.text_rules.specs.Domain.{is_domain};
 ghost use Rattle.mld_model.specs.Local.{IsNamed};
 ghost use Rattle.crash_laws.specs.schedule_model.declared.Command.TheVariants as commands;
@@ -36,7 +37,7 @@ pub fn open<R: Threads + Sync, B: CrashBanks>(
     ensures keeps { KeepsDomain B.meter number parts.old parts.new }
     ensures done { IfOk result (Does B.log parts.old (commands.Open number) parts.new) }
     ensures faults { HasFaultsOfParts B.meter number parts.old parts.new result }
-    ensures left { LeavesAt B.log B.meter doing_open (IsOk result)
+    ensures left { LeavesAt B.log B.meter doing_open (result_err result)
         number parts.old.clones.items parts.new.clones.items }
     ensures unsent { IsSilent result parts.old.messages.items parts.new.messages.items }
 {
@@ -65,7 +66,7 @@ fn open_banks<R: Threads + Sync, B: CrashBanks>(
         (map banks_of_state clones.old.items) (map banks_of_state clones.new.items) }
     ensures faults { HasFaultsFor number B.meter
         (map banks_of_state clones.old.items) (map banks_of_state clones.new.items) result }
-    ensures left { LeavesAt B.log B.meter doing_open (IsOk result) number clones.old.items clones.new.items }
+    ensures left { LeavesAt B.log B.meter doing_open (result_err result) number clones.old.items clones.new.items }
 {
     let CloneState::Down(banks) = take_state(clones, number) else {
         unreachable!()

@@ -30,6 +30,7 @@ pub fn query<'a, R: Threads + Sync, B: CrashBanks>(
     requires form { IsQueryInForm read.now.query }
     ensures done { IfOk result (Does B.log parts.now (commands.Query number read.now) parts.now) }
     ensures faults { HasFaultsOfParts B.meter number parts.now parts.now result }
+    ensures cause { IfErr result (λ fault. fault ≡ WorldFault.NoMemory) }
 {
     match live_at(parts.clones.as_slice(), number) {
         Ok(clone) => answer_live(rt, alloc, clone, read),

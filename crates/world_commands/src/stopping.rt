@@ -1,5 +1,5 @@
 //! Clones stop: the command `stop`, and the end of a world.
-ghost use Rattle.std.specs.Prelude.{◌≡◌, ◌+◌, ◌<◌, ◌≤◌, ◌++◌, map, vec_len, vec_capacity};
+ghost use Rattle.std.specs.Prelude.{◌≡◌, ◌+◌, ◌<◌, ◌≤◌, ◌++◌, None, map, vec_len, vec_capacity};
 ghost use Rattle.crash_laws.specs.clone_core.Banked.{BankedClone};
 ghost use Rattle.mld_model.specs.declared.CloneState.TheVariants as kinds;
 ghost use Rattle.crash_laws.specs.schedule_model.declared.Command.TheVariants as commands;
@@ -24,7 +24,7 @@ pub fn stop<B: CrashBanks>(parts: &mut Parts<B>, number: u8) -> Reply<'static>
     ensures quiet { HadNoFaults B.meter
         (map banks_of_state parts.old.clones.items) (map banks_of_state parts.new.clones.items) }
     ensures done { Does B.log parts.old (commands.Stop number) parts.new result }
-    ensures left { LeavesAt B.log B.meter doing_nothing (Unit {0})
+    ensures left { LeavesAt B.log B.meter doing_nothing None
         number parts.old.clones.items parts.new.clones.items }
 {
     match &parts.clones[usize::from(number)] {

@@ -1,4 +1,5 @@
-use Rattle.std.proofs.Common.{arith, ap, set, ℕ, refl}
+use Rattle.std.proofs.Common.{None, arith, ap, set, ℕ, refl}
+use Rattle.std.specs.Result.{result_err}
 use Rattle.mld_model.specs.declared.CloneState.TheVariants as states
 use Rattle.schedule_replies.specs.Replies.{reply_value}
 use Rattle.world_commands.specs.States.{Becomes}
@@ -32,7 +33,7 @@ returns-in-Live g c =
       keeps = keeps_set g.B.Banks.log g.B.Banks.meter c.args.parts.now _ refl refl c.args.number (states.Live before) (states.Live after) becomes c.update_live.ensures.meter;
       done = update_done g.B.Banks.log g.B.Banks.meter c.args.parts.now _ refl refl c.args.number c.args.plan.now before after c.update_live.result becomes c.update_live.ensures.done c.update_live.ensures.opened;
       faults = faults_set g.B.Banks.meter _ _ c.args.number (states.Live before) (states.Live after) c.update_live.result becomes c.update_live.ensures.faults;
-      left = left_becomes g.B.Banks.log g.B.Banks.meter (doing_update c.args.plan.now) _ old _ c.args.number (states.Live before) (states.Live after) becomes c.update_live.ensures.left;
+      left = left_becomes g.B.Banks.log g.B.Banks.meter (doing_update c.args.plan.now) (result_err c.update_live.result) old _ c.args.number (states.Live before) (states.Live after) becomes c.update_live.ensures.left;
       unsent = c.update_live.ensures.unsent;
     }
 
@@ -45,8 +46,8 @@ returns-in_default g c =
           (place_read c.args.parts.now.clones.items c.args.number c.from.result c.index_mut.result.now c.index_mut.result.now c.from.ensures (omega (arith, c.requires.number)) c.index_mut.ensures.value refl)
           same refl (missing_reply c.index_mut.result.now (reply_value c.state_reply.result) c.state_reply.ensures c.in_default.not-Live);
       faults = quiet_still g.B.Banks.meter c.args.parts.now.clones.items _ same;
-      left = left_still g.B.Banks.log g.B.Banks.meter (doing_update c.args.plan.now) _ c.args.parts.now.clones.items _ c.args.number c.index_mut.result.now
+      left = left_still g.B.Banks.log g.B.Banks.meter (doing_update c.args.plan.now) None c.args.parts.now.clones.items _ c.args.number c.index_mut.result.now
           (place_read c.args.parts.now.clones.items c.args.number c.from.result c.index_mut.result.now c.index_mut.result.now c.from.ensures (omega (arith, c.requires.number)) c.index_mut.ensures.value refl) same
-          (λ whole. missing_idle (λ clone. UpdatesNone clone c.args.plan.now) c.index_mut.result.now c.in_default.not-Live);
+          (missing_idle (λ clone. UpdatesNone clone c.args.plan.now) c.index_mut.result.now c.in_default.not-Live);
       unsent = tt;
     }

@@ -1,5 +1,6 @@
-use Rattle.std.proofs.Common.{◌∙◌, arith, List, Result, Err, ap, inl, sym, subst, refl, map}
+use Rattle.std.proofs.Common.{◌∙◌, arith, List, None, Some, Result, Err, ap, inl, sym, subst, refl, map}
 use Rattle.std.proofs.lemmas.Result.{IfOk-weaker}
+use Rattle.std.specs.Result.{result_err}
 use Rattle.mld_ops.specs.declared.messages.Message.{Message}
 use Rattle.mld_model.specs.World.{numbered}
 use Rattle.schedule_replies.specs.declared.replies.Reply.{Reply}
@@ -12,7 +13,7 @@ use Rattle.world_commands.specs.Doings.{doing_deliver}
 use Rattle.world_commands.proofs.BankLemmas.{faults_memory, quiet_same}
 use Rattle.world_commands.proofs.DeliverLemmas.{is_fit, deliver_done, deliver_none}
 use Rattle.world_commands.proofs.WorldLemmas.{keeps_banks, keeps_still}
-use Rattle.world_commands.proofs.LeftLemmas.{left_there, numbered_left, silent_same, silent_memory}
+use Rattle.world_commands.proofs.LeftLemmas.{left_there, memory_behind, numbered_left, silent_same, silent_memory}
 use Rattle.world_commands.proofs.deliver.deliver.Goals as goal
 
 pub returns-in_default : goal.returns-in_default
@@ -21,8 +22,8 @@ returns-in_default g c = record {
   done = deliver_none g.B.Banks.log g.B.Banks.meter c.args.parts.now _ refl refl c.args.message c.args.number refl refl
       (sym (c.in_default.ensures ∙ ap (λ (ms : List Message). numbered ms c.args.message) c.as_slice.ensures.value));
   faults = quiet_same g.B.Banks.meter (map banks_of_state c.args.parts.now.clones.items);
-  left = left_there g.B.Banks.log g.B.Banks.meter (doing_deliver c.args.parts.now.messages.items c.args.message) _ c.args.parts.now.clones.items c.args.number (omega (arith, c.requires.number))
-      (λ whole state. inl (sym (c.in_default.ensures ∙ ap (λ (ms : List Message). numbered ms c.args.message) c.as_slice.ensures.value)));
+  left = left_there g.B.Banks.log g.B.Banks.meter (doing_deliver c.args.parts.now.messages.items c.args.message) None c.args.parts.now.clones.items c.args.number (omega (arith, c.requires.number))
+      (λ state. inl (sym (c.in_default.ensures ∙ ap (λ (ms : List Message). numbered ms c.args.message) c.as_slice.ensures.value)));
   unsent = tt;
 }
 
@@ -40,8 +41,8 @@ returns-in-Ok-Told g c =
           (sym (c.in-Some.ensures ∙ ap (λ (ms : List Message). numbered ms c.args.message) c.as_slice.ensures.value))
           (subst P c.in-Ok-Told.field-0-is c.in-Ok-Told.ensures.ok) (λ steps. (refl, refl)) c.in-Ok-Told.ensures.carried;
       faults = c.in-Ok-Told.ensures.faults;
-      left = numbered_left g.B.Banks.log g.B.Banks.meter c.args.parts.now.messages.items c.args.message c.in-Some.message.now _ _ c.args.number c.args.parts.now.clones.items c.receive_at.new.clones.items
-          (sym (c.in-Some.ensures ∙ ap (λ (ms : List Message). numbered ms c.args.message) c.as_slice.ensures.value)) (λ whole. refl) c.in-Ok-Told.ensures.left;
+      left = numbered_left g.B.Banks.log g.B.Banks.meter c.args.parts.now.messages.items c.args.message c.in-Some.message.now None None c.args.number c.args.parts.now.clones.items c.receive_at.new.clones.items
+          (sym (c.in-Some.ensures ∙ ap (λ (ms : List Message). numbered ms c.args.message) c.as_slice.ensures.value)) (inl refl) c.in-Ok-Told.ensures.left;
       unsent = tt;
     }
 
@@ -57,8 +58,9 @@ returns-in-Ok-Sends g c =
           c.send_answers.ensures.sent;
       faults = faults_memory g.B.Banks.meter c.args.number (map banks_of_state c.args.parts.now.clones.items) (map banks_of_state c.receive_at.new.clones.items) c.send_answers.result
           c.in-Ok-Sends.ensures.faults c.send_answers.ensures.memory;
-      left = numbered_left g.B.Banks.log g.B.Banks.meter c.args.parts.now.messages.items c.args.message c.in-Some.message.now _ _ c.args.number c.args.parts.now.clones.items c.receive_at.new.clones.items
-          (sym (c.in-Some.ensures ∙ ap (λ (ms : List Message). numbered ms c.args.message) c.as_slice.ensures.value)) (λ whole. refl) c.in-Ok-Sends.ensures.left;
+      left = numbered_left g.B.Banks.log g.B.Banks.meter c.args.parts.now.messages.items c.args.message c.in-Some.message.now None (result_err c.send_answers.result) c.args.number c.args.parts.now.clones.items c.receive_at.new.clones.items
+          (sym (c.in-Some.ensures ∙ ap (λ (ms : List Message). numbered ms c.args.message) c.as_slice.ensures.value)) (memory_behind c.send_answers.result c.send_answers.ensures.memory)
+          c.in-Ok-Sends.ensures.left;
       unsent = silent_memory c.send_answers.result c.args.parts.now.messages.items _ c.send_answers.ensures.memory;
     }
 
@@ -67,7 +69,7 @@ returns-in-Err g c = record {
   keeps = keeps_banks g.B.Banks.log g.B.Banks.meter c.args.parts.now _ refl refl c.args.number c.receive_at.ensures.banks;
   done = tt;
   faults = c.in-Err.ensures.faults;
-  left = numbered_left g.B.Banks.log g.B.Banks.meter c.args.parts.now.messages.items c.args.message c.in-Some.message.now _ _ c.args.number c.args.parts.now.clones.items c.receive_at.new.clones.items
-      (sym (c.in-Some.ensures ∙ ap (λ (ms : List Message). numbered ms c.args.message) c.as_slice.ensures.value)) (λ whole. whole) c.in-Err.ensures.left;
+  left = numbered_left g.B.Banks.log g.B.Banks.meter c.args.parts.now.messages.items c.args.message c.in-Some.message.now (Some c.in-Err.error) (Some c.in-Err.error) c.args.number c.args.parts.now.clones.items c.receive_at.new.clones.items
+      (sym (c.in-Some.ensures ∙ ap (λ (ms : List Message). numbered ms c.args.message) c.as_slice.ensures.value)) (inl refl) c.in-Err.ensures.left;
   unsent = let told : Result Reply WorldFault = Err c.in-Err.error in silent_same told c.args.parts.now.messages.items _ refl;
 }

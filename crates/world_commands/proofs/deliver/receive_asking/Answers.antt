@@ -1,4 +1,5 @@
-use Rattle.std.proofs.Common.{◌≡◌, ◌∙◌, set, IsOk}
+use Rattle.std.proofs.Common.{◌≡◌, ◌∙◌, set}
+use Rattle.std.specs.Result.{result_err}
 use Rattle.mld_model.specs.declared.CloneState.TheVariants as states
 use Rattle.world_commands.specs.Doings.{doing_receive}
 use Rattle.world_commands.proofs.DeliverLemmas.{asking_becomes, asking_received, asking_carried, asking_on, asking_faults}
@@ -24,6 +25,6 @@ returns g c =
       carried = asking_carried meter old new number asking sent what told at now c.receive.ensures.adopts c.told_of-state.ensures;
       banks = uses_set meter old new number (states.Asking asking) told.0 becomes (asking_on meter old new number asking sent what told c.told_of-state.ensures c.receive.ensures.meter);
       faults = faults_set meter old new number (states.Asking asking) told.0 told.1 becomes (asking_faults meter old new number asking sent what told c.told_of-state.ensures c.receive.ensures.meter);
-      left = left_becomes g.B.Banks.log meter (doing_receive sent) (IsOk told.1) old new number (states.Asking asking) told.0 becomes
+      left = left_becomes g.B.Banks.log meter (doing_receive sent) (result_err told.1) old new number (states.Asking asking) told.0 becomes
           (asking_left g.B.Banks.log meter old new number asking sent what told c.receive.ensures.adopts c.told_of-state.ensures c.receive.ensures.durable);
     }

@@ -1,5 +1,6 @@
-use Rattle.std.proofs.Common.{IsOk, arith, ap, refl, sym, subst, List, ℕ, map, set}
+use Rattle.std.proofs.Common.{None, arith, ap, refl, sym, subst, List, ℕ, map, set}
 use Rattle.std.proofs.lemmas.Result.{IfOk-weaker, on_ok_weaker}
+use Rattle.std.specs.Result.{result_err}
 use Rattle.mld_model.specs.declared.CloneState.TheVariants as states
 use Rattle.crash_laws.specs.clone_core.Joining.{GivesNone}
 use Rattle.world_commands.specs.Delivering.{WhereAway, WhereLive}
@@ -38,7 +39,7 @@ returns-in-Live g c =
           (λ opened. record { state = states.Live after; now = becomes.now; carried = next_open old number before after becomes.was opened }) c.receive_live.ensures.opened;
       banks = uses_set g.B.Banks.meter old (set old c.from.result (states.Live after)) number (states.Live before) (states.Live after) becomes c.receive_live.ensures.meter;
       faults = faults_set g.B.Banks.meter old (set old c.from.result (states.Live after)) number (states.Live before) (states.Live after) c.receive_live.result becomes c.receive_live.ensures.faults;
-      left = left_becomes g.B.Banks.log g.B.Banks.meter (doing_receive c.args.message.now) _ old (set old c.from.result (states.Live after)) number (states.Live before) (states.Live after) becomes c.receive_live.ensures.left;
+      left = left_becomes g.B.Banks.log g.B.Banks.meter (doing_receive c.args.message.now) (result_err c.receive_live.result) old (set old c.from.result (states.Live after)) number (states.Live before) (states.Live after) becomes c.receive_live.ensures.left;
     }
 
 pub returns-in_default : goal.returns-in_default
@@ -57,12 +58,12 @@ returns-in_default g c =
       carried = record { state = state; now = becomes.now; carried = away_carried old number state becomes.was c.in_default.not-Live };
       banks = uses_set g.B.Banks.meter old (set old c.from.result state) number state state becomes (goes_on_same (g.B.Banks.meter (banks_of_state state)));
       faults = quiet_becomes g.B.Banks.meter old (set old c.from.result state) number state state becomes refl;
-      left = left_becomes g.B.Banks.log g.B.Banks.meter (doing_receive c.args.message.now) _ old (set old c.from.result state) number state state becomes
-          (left_same g.B.Banks.log g.B.Banks.meter (doing_receive c.args.message.now) _ state state refl
-          (λ whole. away_idle (λ clone. ReceivesNone clone c.args.message.now) (λ asker. GivesNone asker c.args.message.now) state c.in_default.not-Live c.in_default.not-Asking));
+      left = left_becomes g.B.Banks.log g.B.Banks.meter (doing_receive c.args.message.now) None old (set old c.from.result state) number state state becomes
+          (left_same g.B.Banks.log g.B.Banks.meter (doing_receive c.args.message.now) None state state refl
+          (away_idle (λ clone. ReceivesNone clone c.args.message.now) (λ asker. GivesNone asker c.args.message.now) state c.in_default.not-Live c.in_default.not-Asking));
     }
 
 pub returns-in-Asking-clause-left : goal.returns-in-Asking-clause-left
 returns-in-Asking-clause-left g c =
-    let P : List (BankedState g.row.B.Denot) → Type 0 = λ old. LeavesAt g.B.Banks.log g.B.Banks.meter (doing_receive c.args.message.now) (IsOk c.receive_asking.result) c.args.number old c.receive_asking.new.clones.items in
+    let P : List (BankedState g.row.B.Denot) → Type 0 = λ old. LeavesAt g.B.Banks.log g.B.Banks.meter (doing_receive c.args.message.now) (result_err c.receive_asking.result) c.args.number old c.receive_asking.new.clones.items in
     subst P (read_back c.args.clones.now.items c.from.result c.index_mut.result.now c.index_mut.ensures.value) c.receive_asking.ensures.left

@@ -1,4 +1,5 @@
-use Rattle.std.proofs.Common.{◌∙◌, arith, refl, subst, map, List, ℕ}
+use Rattle.std.proofs.Common.{◌∙◌, None, arith, refl, subst, map, List, ℕ}
+use Rattle.std.specs.Result.{result_err}
 use Rattle.mld_model.specs.declared.CloneState.TheVariants as states
 use Rattle.world_commands.specs.Asking.{AsksFirst}
 use Rattle.world_commands.specs.WorldBanks.{banks_of_state}
@@ -7,7 +8,7 @@ use Rattle.world_commands.proofs.Places.{place_read}
 use Rattle.world_commands.proofs.BankLemmas.{quiet_same, faults_memory}
 use Rattle.world_commands.proofs.JoinLemmas.{join_again_done, join_first_done, join_first_keeps, join_first_faults, join_settled_done}
 use Rattle.world_commands.proofs.WorldLemmas.{keeps_still}
-use Rattle.world_commands.proofs.LeftLemmas.{left_there, join_left}
+use Rattle.world_commands.proofs.LeftLemmas.{left_there, memory_uncalled, nothing_uncalled, join_left}
 use Rattle.world_commands.proofs.join.join.Goals as goal
 
 pub returns-in-Asking : goal.returns-in-Asking
@@ -20,7 +21,8 @@ returns-in-Asking g c =
           c.ask.ensures.asks refl c.send_question.ensures.sent;
       faults = faults_memory g.B.Banks.meter c.args.number (map banks_of_state parts.clones.items) (map banks_of_state parts.clones.items) c.send_question.result
           (quiet_same g.B.Banks.meter (map banks_of_state parts.clones.items)) c.send_question.ensures.memory;
-      left = left_there g.B.Banks.log g.B.Banks.meter doing_nothing _ parts.clones.items c.args.number (omega (arith, c.requires.number)) (λ whole state. tt);
+      left = left_there g.B.Banks.log g.B.Banks.meter doing_nothing (result_err c.send_question.result) parts.clones.items c.args.number (omega (arith, c.requires.number))
+          (nothing_uncalled c.send_question.result c.send_question.ensures.memory);
     }
 
 pub returns-in_ok-named-in-Absent : goal.returns-in_ok-named-in-Absent
@@ -37,7 +39,8 @@ returns-in_ok-named-in-Absent g c =
       keeps = join_first_keeps g.B.Banks.log g.B.Banks.meter parts _ refl refl c.args.number question asks;
       done = join_first_done g.B.Banks.log g.B.Banks.meter parts _ refl refl c.args.number question c.send_question-in-Absent.result c.requires.named asks c.send_question-in-Absent.ensures.sent;
       faults = join_first_faults g.B.Banks.meter parts.domain parts.properties.items parts.clones.items new c.args.number question c.send_question-in-Absent.result asks c.send_question-in-Absent.ensures.memory;
-      left = join_left g.B.Banks.log g.B.Banks.meter _ parts.domain parts.properties.items parts.clones.items new c.args.number question asks;
+      left = join_left g.B.Banks.log g.B.Banks.meter c.send_question-in-Absent.result parts.domain parts.properties.items parts.clones.items new c.args.number question
+          c.send_question-in-Absent.ensures.memory asks;
     }
 
 pub returns-in_default : goal.returns-in_default
@@ -50,8 +53,10 @@ returns-in_default g c =
           (place_read parts.clones.items c.args.number c.from.result state state c.from.ensures (omega (arith, c.requires.number)) c.index.ensures refl)
           c.in_default.not-Asking c.in_default.not-Absent refl refl;
       faults = quiet_same g.B.Banks.meter (map banks_of_state parts.clones.items);
-      left = left_there g.B.Banks.log g.B.Banks.meter doing_nothing _ parts.clones.items c.args.number (omega (arith, c.requires.number)) (λ whole state. tt);
+      left = left_there g.B.Banks.log g.B.Banks.meter doing_nothing None parts.clones.items c.args.number (omega (arith, c.requires.number)) (λ state. tt);
     }
 
 pub returns-in_err-named-in-Absent-clause-left : goal.returns-in_err-named-in-Absent-clause-left
-returns-in_err-named-in-Absent-clause-left g c = left_there g.B.Banks.log g.B.Banks.meter doing_nothing _ c.args.parts.now.clones.items c.args.number (omega (arith, c.requires.number)) (λ whole state. tt)
+returns-in_err-named-in-Absent-clause-left g c =
+    left_there g.B.Banks.log g.B.Banks.meter doing_nothing (result_err c.from_residual.result) c.args.parts.now.clones.items c.args.number (omega (arith, c.requires.number))
+    (memory_uncalled doing_nothing c.from_residual.result c.from_residual.ensures.1)

@@ -1,4 +1,5 @@
-use Rattle.std.proofs.Common.{arith, ap, set, ℕ, refl}
+use Rattle.std.proofs.Common.{None, arith, ap, set, ℕ, refl}
+use Rattle.std.specs.Result.{result_err}
 use Rattle.mld_model.specs.declared.CloneState.TheVariants as states
 use Rattle.schedule_replies.specs.Replies.{reply_value}
 use Rattle.world_commands.specs.States.{Becomes}
@@ -31,7 +32,7 @@ returns-in-Live g c =
       keeps = keeps_set g.B.Banks.log g.B.Banks.meter c.args.parts.now _ refl refl c.args.number (states.Live before) (states.Live after) becomes c.keep_live.ensures.meter;
       done = keep_done g.B.Banks.log g.B.Banks.meter c.args.parts.now _ refl refl c.args.number c.args.keeping refl before after c.keep_live.result becomes c.keep_live.ensures.done c.keep_live.ensures.opened;
       faults = faults_set g.B.Banks.meter _ _ c.args.number (states.Live before) (states.Live after) c.keep_live.result becomes c.keep_live.ensures.faults;
-      left = left_becomes g.B.Banks.log g.B.Banks.meter (doing_keep c.args.keeping) _ old _ c.args.number (states.Live before) (states.Live after) becomes c.keep_live.ensures.left;
+      left = left_becomes g.B.Banks.log g.B.Banks.meter (doing_keep c.args.keeping) (result_err c.keep_live.result) old _ c.args.number (states.Live before) (states.Live after) becomes c.keep_live.ensures.left;
       unsent = silent_same c.keep_live.result c.args.parts.now.messages.items _ refl;
     }
 
@@ -44,8 +45,8 @@ returns-in_default g c =
           (place_read c.args.parts.now.clones.items c.args.number c.from.result c.index_mut.result.now c.index_mut.result.now c.from.ensures (omega (arith, c.requires.number)) c.index_mut.ensures.value refl)
           same (missing_reply c.index_mut.result.now (reply_value c.state_reply.result) c.state_reply.ensures c.in_default.not-Live);
       faults = quiet_still g.B.Banks.meter c.args.parts.now.clones.items _ same;
-      left = left_still g.B.Banks.log g.B.Banks.meter (doing_keep c.args.keeping) _ c.args.parts.now.clones.items _ c.args.number c.index_mut.result.now
+      left = left_still g.B.Banks.log g.B.Banks.meter (doing_keep c.args.keeping) None c.args.parts.now.clones.items _ c.args.number c.index_mut.result.now
           (place_read c.args.parts.now.clones.items c.args.number c.from.result c.index_mut.result.now c.index_mut.result.now c.from.ensures (omega (arith, c.requires.number)) c.index_mut.ensures.value refl) same
-          (λ whole. missing_idle (λ clone. IsKeptAlready c.args.keeping clone) c.index_mut.result.now c.in_default.not-Live);
+          (missing_idle (λ clone. IsKeptAlready c.args.keeping clone) c.index_mut.result.now c.in_default.not-Live);
       unsent = tt;
     }

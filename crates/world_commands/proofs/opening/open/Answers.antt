@@ -1,4 +1,5 @@
-use Rattle.std.proofs.Common.{◌∙◌, arith, refl, sym, subst, List, ℕ, IsTrue, map}
+use Rattle.std.proofs.Common.{◌∙◌, None, arith, refl, sym, subst, List, ℕ, IsTrue, map}
+use Rattle.std.specs.Result.{result_err}
 use Rattle.std.proofs.lemmas.Result.{IfOk-weaker}
 use Rattle.text_rules.specs.Domain.{is_domain}
 use Rattle.mld_model.specs.declared.CloneState.TheVariants as states
@@ -10,7 +11,7 @@ use Rattle.world_commands.proofs.BankLemmas.{quiet_same}
 use Rattle.world_commands.proofs.Places.{place_read, set_again}
 use Rattle.world_commands.proofs.StopLemmas.{open_done, open_standing_done, standing_reply, whole_at}
 use Rattle.world_commands.proofs.WorldLemmas.{keeps_banks, keeps_still}
-use Rattle.world_commands.proofs.LeftLemmas.{refused_undone, left_still, left_there, standing_idle, silent_same}
+use Rattle.world_commands.proofs.LeftLemmas.{left_still, left_there, memory_uncalled, standing_idle, silent_same}
 use Rattle.world_commands.proofs.opening.open.Goals as goal
 
 pub open_banks-requires-clause-whole : goal.open_banks-requires-clause-whole
@@ -47,10 +48,12 @@ returns-in_default g c =
       done = open_standing_done g.B.Banks.log g.B.Banks.meter parts _ refl refl c.args.number state c.state_reply.result at (set_again parts.clones.items c.args.number state at) refl refl
           (standing_reply state (reply_value c.state_reply.result) c.state_reply.ensures c.in_default.not-Down);
       faults = quiet_same g.B.Banks.meter (map banks_of_state parts.clones.items);
-      left = left_still g.B.Banks.log g.B.Banks.meter doing_open _ parts.clones.items parts.clones.items c.args.number state at refl
-          (λ whole. standing_idle state c.in_default.not-Down);
+      left = left_still g.B.Banks.log g.B.Banks.meter doing_open None parts.clones.items parts.clones.items c.args.number state at refl
+          (standing_idle state c.in_default.not-Down);
       unsent = tt;
     }
 
 pub returns-in_err-named-in-Down-clause-left : goal.returns-in_err-named-in-Down-clause-left
-returns-in_err-named-in-Down-clause-left g c = left_there g.B.Banks.log g.B.Banks.meter doing_open _ c.args.parts.now.clones.items c.args.number (omega (arith, c.requires.number)) (λ whole. absurd (refused_undone c.from_residual.result c.from_residual.ensures.0 whole))
+returns-in_err-named-in-Down-clause-left g c =
+    left_there g.B.Banks.log g.B.Banks.meter doing_open (result_err c.from_residual.result) c.args.parts.now.clones.items c.args.number (omega (arith, c.requires.number))
+    (memory_uncalled doing_open c.from_residual.result c.from_residual.ensures.1)

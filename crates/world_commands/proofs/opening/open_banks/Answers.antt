@@ -1,4 +1,5 @@
-use Rattle.std.proofs.Common.{◌≡◌, ◌∙◌, arith, set, subst, Some, IsOk}
+use Rattle.std.proofs.Common.{◌≡◌, ◌∙◌, arith, set, subst, Some}
+use Rattle.std.specs.Result.{result_err}
 use Rattle.std.proofs.lemmas.Option.{slice_get_within}
 use Rattle.mld_model.specs.declared.CloneState.TheVariants as states
 use Rattle.world_commands.specs.Doings.{doing_open}
@@ -38,6 +39,6 @@ returns g c =
           (opened_on log meter domain properties old new number banks what told c.opened_as-state.ensures c.mount.ensures.meter);
       faults = faults_set meter old new number (states.Down banks) told.0 told.1 becomes
           (opened_faults log meter domain properties old new number banks what told c.opened_as-state.ensures c.mount.ensures.meter);
-      left = left_becomes log meter doing_open (IsOk told.1) old new number (states.Down banks) told.0 becomes
+      left = left_becomes log meter doing_open (result_err told.1) old new number (states.Down banks) told.0 becomes
           (opened_left log meter domain properties old new number banks what told c.opened_as-state.ensures c.mount.ensures.meter c.mount.ensures.moments);
     }

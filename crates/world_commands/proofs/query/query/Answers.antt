@@ -21,6 +21,7 @@ returns-in-Ok g c =
       done = query_done g.B.Banks.log g.B.Banks.meter c.args.parts.now c.args.number c.args.read.now c.in-Ok.clone.now c.answer_live.result
           (subst P c.as_slice.ensures.value c.in-Ok.ensures) c.answer_live.ensures.answers;
       faults = faults_memory g.B.Banks.meter c.args.number banks banks c.answer_live.result (quiet_same g.B.Banks.meter banks) c.answer_live.ensures.cause;
+      cause = c.answer_live.ensures.cause;
     }
 
 pub returns-in-Err : goal.returns-in-Err
@@ -29,4 +30,5 @@ returns-in-Err g c =
     record {
       done = query_missing_done g.B.Banks.log g.B.Banks.meter c.args.parts.now c.args.number c.args.read.now c.in-Err.missing (subst P c.as_slice.ensures.value c.in-Err.ensures);
       faults = quiet_same g.B.Banks.meter (map banks_of_state c.args.parts.now.clones.items);
+      cause = tt;
     }

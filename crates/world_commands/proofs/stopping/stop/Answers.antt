@@ -1,4 +1,4 @@
-use Rattle.std.proofs.Common.{arith, refl, map}
+use Rattle.std.proofs.Common.{None, arith, refl, map}
 use Rattle.mld_model.specs.declared.CloneState.TheVariants as states
 use Rattle.schedule_replies.specs.Replies.{reply_value}
 use Rattle.world_commands.specs.WorldBanks.{banks_of_state}
@@ -19,7 +19,7 @@ returns-in-Live g c = record {
   keeps = stop_keeps g.B.Banks.log g.B.Banks.meter c.args.parts.now _ refl refl c.args.number c.stop_live.ensures;
   done = stop_done g.B.Banks.log g.B.Banks.meter c.args.parts.now _ refl refl c.args.number c.stop_live.ensures refl;
   quiet = stop_quiet g.B.Banks.log g.B.Banks.meter c.args.parts.now.clones.items c.stop_live.new.clones.items c.args.number c.stop_live.ensures;
-  left = stop_left g.B.Banks.log g.B.Banks.meter (Unit {0}) c.args.parts.now.clones.items c.stop_live.new.clones.items c.args.number c.stop_live.ensures;
+  left = stop_left g.B.Banks.log g.B.Banks.meter c.args.parts.now.clones.items c.stop_live.new.clones.items c.args.number c.stop_live.ensures;
 }
 
 pub returns-in_default : goal.returns-in_default
@@ -32,6 +32,6 @@ returns-in_default g c =
           (place_read parts.clones.items c.args.number c.from.result state state c.from.ensures (omega (arith, c.requires)) c.index.ensures refl)
           refl refl (missing_reply state (reply_value c.state_reply.result) c.state_reply.ensures c.in_default.not-Live);
       quiet = quiet_same g.B.Banks.meter (map banks_of_state parts.clones.items);
-      left = left_still g.B.Banks.log g.B.Banks.meter doing_nothing (Unit {0}) parts.clones.items parts.clones.items c.args.number state
-          (place_read parts.clones.items c.args.number c.from.result state state c.from.ensures (omega (arith, c.requires)) c.index.ensures refl) refl (λ whole. tt);
+      left = left_still g.B.Banks.log g.B.Banks.meter doing_nothing None parts.clones.items parts.clones.items c.args.number state
+          (place_read parts.clones.items c.args.number c.from.result state state c.from.ensures (omega (arith, c.requires)) c.index.ensures refl) refl tt;
     }
