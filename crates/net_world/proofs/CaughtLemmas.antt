@@ -1,5 +1,5 @@
 -- What the clone of a crash line did on its banks, whose device was armed: by what its command left of them.
-use Rattle.std.proofs.Common.{◌≡◌, ℕ, ◌+◌, ◌<◌, ◌≤◌, List, [], ◌∷◌, Option, Some, refl, sym, ◌∙◌, ap, arith, subst, map}
+use Rattle.std.proofs.Common.{◌≡◌, ℕ, ◌+◌, ◌<◌, ◌≤◌, List, [], ◌∷◌, Option, None, Some, refl, sym, ◌∙◌, ap, arith, subst, map}
 use Rattle.std.specs.Prelude.{IsSome}
 use Rattle.mld_io.specs.Arm.{Arm, Armed, Caught, Meter, LowersAtMost, LowersBy}
 use Rattle.mld_io.specs.Disk.{Log, Sides, grown_by, seen, MayLeave}
@@ -32,10 +32,12 @@ use Rattle.world_commands.specs.crash_laws.Deeds.{CarriedDeed}
 use Rattle.world_commands.proofs.of_crash_laws.CrashedLines.{opens_nothing, opening_of, caught_crash, caught_opening}
 use Rattle.world_commands.proofs.of_crash_laws.Generations.{image_up_to}
 use Rattle.world_commands.proofs.of_crash_laws.OtherDeeds.{opened_deed}
+use Rattle.world_commands.specs.declared.faults.WorldFault.{WorldFault}
 use Rattle.world_commands.specs.LeftBanks.{WorkOnBanks, LeavesState, leaves_same, leaves_live, leaves_made, leaves_opened}
 use Rattle.world_commands.specs.States.{HasState}
 use Rattle.world_commands.specs.WorldBanks.{BankedState, BankedWorld, in_memory, banks_of_state, memory_of, IsDownOn, StandsOnBanks, HadNoFault}
 use Rattle.world_commands.proofs.BankLemmas.{memory_at}
+use Rattle.world_commands.proofs.LeftLemmas.{idle_done}
 use Rattle.world_commands.proofs.StopLemmas.{told_log}
 use Rattle.net_world.specs.CrashedWorlds.{IsArmedIn, doing_task}
 use Rattle.net_world.proofs.CutLemmas.{up_more, ImageDown, down_image, seen_stands}
@@ -173,29 +175,31 @@ module _ {B : Type 0} (log : B → Option Log) (meter : B → Meter) (tells : (b
   opened_caught (tasks.Truncate number keep) opening image down keeps early = absurd opening
 
   -- all was done
-  pub did_by : (was now : BankedState B) (Whole : Type 0) → Whole → HasState running.clones (number_of_task task) was → IsArmedIn was task
-      → (meter (banks_of_state was)).arm ≡ Armed call leave → LeavesState log meter (doing_task messages task) Whole was now → Did call world task
-  did_by (states.Absent banks) now Whole whole at armed arm (leaves_same logs arms idle) = absurd armed
-  did_by (states.Live old) now Whole whole at armed arm (leaves_same logs arms idle) = record {
+  pub did_by : (was now : BankedState B) (ended : Option WorldFault) → ended ≡ None → HasState running.clones (number_of_task task) was → IsArmedIn was task
+      → (meter (banks_of_state was)).arm ≡ Armed call leave → LeavesState log meter (doing_task messages task) ended was now → Did call world task
+  did_by (states.Absent banks) now ended whole at armed arm (leaves_same same uncalled) = absurd armed
+  did_by (states.Live old) now ended whole at armed arm (leaves_same same uncalled) = record {
     reading = Keeps (kept_as sides.A old.generation old.local);
     steps = [];
-    carried = idle_deed (memory_of running) world stands.memory sound messages are task old.local sides.A old.generation (live_here old at) (idle whole);
+    carried = idle_deed (memory_of running) world stands.memory sound messages are task old.local sides.A old.generation (live_here old at)
+        (idle_done (doing_task messages task) (states.Live old.local) ended whole uncalled);
     late = omega (arith, live_opens old at);
   }
-  did_by (states.Asking old) now Whole whole at armed arm (leaves_same logs arms idle) = record {
+  did_by (states.Asking old) now ended whole at armed arm (leaves_same same uncalled) = record {
     reading = KeepsNone;
     steps = [];
-    carried = waits_deed (memory_of running) world stands.memory sound messages are task old.asker (asking_here old at) (idle whole);
+    carried = waits_deed (memory_of running) world stands.memory sound messages are task old.asker (asking_here old at)
+        (idle_done (doing_task messages task) (states.Asking old.asker) ended whole uncalled);
     late = omega (arith, asking_opens old at);
   }
-  did_by (states.Down old) now Whole whole at armed arm (leaves_same logs arms idle) = absurd (down_idles task armed (idle whole))
-  did_by (states.Live old) (states.Live new) Whole whole at armed arm (leaves_live steps made went fronts) = record {
+  did_by (states.Down old) now ended whole at armed arm (leaves_same same uncalled) = absurd (down_idles task armed (idle_done (doing_task messages task) (states.Down tt) ended whole uncalled))
+  did_by (states.Live old) (states.Live new) ended whole at armed arm (leaves_live steps some made went fronts) = record {
     reading = Keeps (kept_as sides.A old.generation old.local);
     steps = steps;
     carried = changes_deed (memory_of running) world stands.memory sound messages are task old.local steps sides.A old.generation (live_here old at) made;
     late = omega (arith, live_opens old at, done_calls (calls_of_all steps) (meter old.banks).arm (meter new.banks).arm arm (went.whole whole));
   }
-  did_by (states.Asking old) now Whole whole at armed arm (leaves_made leaf takes went left) =
+  did_by (states.Asking old) now ended whole at armed arm (leaves_made leaf takes went left) =
       let steps : List KeptStep = Created (head_of (joined_clone old.asker leaf)) ∷ [] in
       record {
         reading = KeepsNone;
@@ -203,7 +207,7 @@ module _ {B : Type 0} (log : B → Option Log) (meter : B → Meter) (tells : (b
         carried = takes_deed (memory_of running) world stands.memory sound messages are task old.asker leaf (asking_here old at) takes;
         late = omega (arith, asking_opens old at, done_calls (calls_of_all steps) (meter old.banks).arm (meter (banks_of_state now)).arm arm (went.whole whole));
       }
-  did_by (states.Down old) now Whole whole at armed arm (leaves_opened went left) =
+  did_by (states.Down old) now ended whole at armed arm (leaves_opened may went left) =
       let l = told_log (log old) (tells old) in
       opened_did task armed (read_banks (seen l.0)) (down_here old at)
       (down_seen old at l.0 l.1)
@@ -225,14 +229,15 @@ module _ {B : Type 0} (log : B → Option Log) (meter : B → Meter) (tells : (b
   more : (limit : ℕ) (image : Sides) → limit ≤ running.steps + 1 + 1 → WasCaught call world task limit image → WasCaught call world task (running.steps + 1 + 1) image
   more limit image low was = record { to = was.to; up = up_more limit (running.steps + 1 + 1) (read_banks image) low was.up }
 
-  pub caught_by : (was now : BankedState B) (Whole : Type 0) → HasState running.clones (number_of_task task) was → IsArmedIn was task
+  pub caught_by : (was now : BankedState B) (ended : Option WorldFault) → HasState running.clones (number_of_task task) was → IsArmedIn was task
       → IsArmed (clone_at world (number_of_task task)) task → (meter (banks_of_state was)).arm ≡ Armed call leave → (meter (banks_of_state now)).arm ≡ Caught
       → (l : Log) → log (banks_of_state now) ≡ Some l → (image : Sides) → MayLeave l image
-      → LeavesState log meter (doing_task messages task) Whole was now → WasCaught call world task (running.steps + 1 + 1) image
-  caught_by was now Whole at armed known arm caught l is image left (leaves_same logs arms idle) = absurd (uncaught call leave (sym arm ∙ sym arms ∙ caught))
-  caught_by (states.Live old) (states.Live new) Whole at armed known arm caught l is image left (leaves_live [] made went fronts) =
+      → LeavesState log meter (doing_task messages task) ended was now → WasCaught call world task (running.steps + 1 + 1) image
+  caught_by was now ended at armed known arm caught l is image left (leaves_same same uncalled) =
+      absurd (uncaught call leave (sym arm ∙ ap (λ (b : B). (meter b).arm) (sym same) ∙ caught))
+  caught_by (states.Live old) (states.Live new) ended at armed known arm caught l is image left (leaves_live [] some made went fronts) =
       absurd (uncaught call leave (sym arm ∙ ap (λ (b : B). (meter b).arm) (sym fronts) ∙ caught))
-  caught_by (states.Live old) (states.Live new) Whole at armed known arm caught l is image left (leaves_live (step ∷ steps) made went fronts) =
+  caught_by (states.Live old) (states.Live new) ended at armed known arm caught l is image left (leaves_live (step ∷ steps) some made went fronts) =
       let before = told_log (log old.banks) (tells old.banks) in
       let moments = fronts before.0 before.1 in
       let backed = stands.backed (number_of_task task) (states.Live old) at in
@@ -240,13 +245,13 @@ module _ {B : Type 0} (log : B → Option Log) (meter : B → Meter) (tells : (b
       (some_caught before.0 (log new.banks) l old.generation (Keeps (kept_as moments.0 old.generation old.local)) (step ∷ steps) (meter old.banks).arm (meter new.banks).arm known
       arm caught is image left went.most moments.1 (omega arith)
       (changes_deed (memory_of running) world stands.memory sound messages are task old.local (step ∷ steps) moments.0 old.generation (live_here old at) made))
-  caught_by (states.Asking old) now Whole at armed known arm caught l is image left (leaves_made leaf takes went made) =
+  caught_by (states.Asking old) now ended at armed known arm caught l is image left (leaves_made leaf takes went made) =
       let before = told_log (log old.banks) (tells old.banks) in
       more 1 image (omega arith)
       (some_caught before.0 (log (banks_of_state now)) l 0 KeepsNone (Created (head_of (joined_clone old.asker leaf)) ∷ []) (meter old.banks).arm (meter (banks_of_state now)).arm known
       arm caught is image left went.most (made before.0 before.1) tt
       (takes_deed (memory_of running) world stands.memory sound messages are task old.asker leaf (asking_here old at) takes))
-  caught_by (states.Down old) now Whole at armed known arm caught l is image left (leaves_opened went more_left) =
+  caught_by (states.Down old) now ended at armed known arm caught l is image left (leaves_opened may went more_left) =
       let before = told_log (log old) (tells old) in
       let found : ImageDown world running.steps (number_of_task task) image =
       down_left old at before.0 before.1 image (now_left before.0 l (log (banks_of_state now)) image (more_left before.0 before.1) is left) in
@@ -256,10 +261,11 @@ module _ {B : Type 0} (log : B → Option Log) (meter : B → Meter) (tells : (b
       }
 
 -- a call that was caught isn't a fault of the device's own
-pub caught_quiet : {B : Type 0} (log : B → Option Log) (meter : B → Meter) (doing : WorkOnBanks) (call : ℕ) (leave : Leave) (was now : BankedState B) (Whole : Type 0)
-    → (meter (banks_of_state was)).arm ≡ Armed call leave → (meter (banks_of_state now)).arm ≡ Caught → LeavesState log meter doing Whole was now
+pub caught_quiet : {B : Type 0} (log : B → Option Log) (meter : B → Meter) (doing : WorkOnBanks) (call : ℕ) (leave : Leave) (was now : BankedState B) (ended : Option WorldFault)
+    → (meter (banks_of_state was)).arm ≡ Armed call leave → (meter (banks_of_state now)).arm ≡ Caught → LeavesState log meter doing ended was now
     → HadNoFault (meter (banks_of_state was)) (meter (banks_of_state now))
-caught_quiet log meter doing call leave was now Whole arm caught (leaves_same logs arms idle) = absurd (uncaught call leave (sym arm ∙ sym arms ∙ caught))
-caught_quiet log meter doing call leave (states.Live old) (states.Live new) Whole arm caught (leaves_live steps made went fronts) = went.caught caught
-caught_quiet log meter doing call leave (states.Asking old) now Whole arm caught (leaves_made leaf takes went made) = went.caught caught
-caught_quiet log meter doing call leave (states.Down old) now Whole arm caught (leaves_opened went left) = went.caught caught
+caught_quiet {B = B} log meter doing call leave was now ended arm caught (leaves_same same uncalled) =
+    absurd (uncaught call leave (sym arm ∙ ap (λ (b : B). (meter b).arm) (sym same) ∙ caught))
+caught_quiet log meter doing call leave (states.Live old) (states.Live new) ended arm caught (leaves_live steps some made went fronts) = went.caught caught
+caught_quiet log meter doing call leave (states.Asking old) now ended arm caught (leaves_made leaf takes went made) = went.caught caught
+caught_quiet log meter doing call leave (states.Down old) now ended arm caught (leaves_opened may went left) = went.caught caught

@@ -1,6 +1,7 @@
 -- A crash line on a running world is the model's step.
-use Rattle.std.proofs.Common.{◌≡◌, ℕ, zero, suc, ◌+◌, ◌<◌, List, [], ◌∷◌, Option, Some, Result, Ok, Err, IfOk, IsOk, inl, inr, refl, sym, ◌∙◌, ap, arith, subst, length, map, set, true}
+use Rattle.std.proofs.Common.{◌≡◌, ℕ, zero, suc, ◌+◌, ◌<◌, List, [], ◌∷◌, Option, Some, Result, Ok, Err, IfOk, None, inl, inr, refl, sym, ◌∙◌, ap, arith, subst, length, map, set, true}
 use Rattle.std.specs.Prelude.{slice_get, IsSome}
+use Rattle.std.specs.Result.{result_err}
 use Rattle.std.proofs.lemmas.Bool.{cases_eq}
 use Rattle.std.proofs.lemmas.List.{length-set}
 use Rattle.std.proofs.lemmas.Option.{slice_get_within}
@@ -108,7 +109,7 @@ pub record Ran {B : Type 0} (log : B → Option Log) (meter : B → Meter) (call
   pub arms : ArmsAt log meter call leave (number_of_task task) old.clones.items mid.clones.items
   pub is_armed : IsArmedIn arms.was task
   pub keeps : KeepsDomain meter (number_of_task task) mid done
-  pub left : LeavesAt log meter (doing_task mid.messages.items task) (IsOk result) (number_of_task task) mid.clones.items done.clones.items
+  pub left : LeavesAt log meter (doing_task mid.messages.items task) (result_err result) (number_of_task task) mid.clones.items done.clones.items
   pub unsent : IsSilent result mid.messages.items done.messages.items
   pub does : IfOk result (Does log mid (command_of task) done)
   pub faults_are : HasFaultsOfParts meter (number_of_task task) mid done result
@@ -234,23 +235,23 @@ module _ {B : Type 0} (log : B → Option Log) (meter : B → Meter) (tells : (b
       subst (λ (l : List (BankedState B)). HasState l (number_of_task task) r.arms.now) (sym r.arms.becomes.now)
       (set_here old.clones.items (number_of_task task) r.arms.was r.arms.now r.arms.becomes.was)
 
-  left_state : LeavesState log meter (doing_task mid.messages.items task) (IsOk result) r.arms.now r.cut.was
+  left_state : LeavesState log meter (doing_task mid.messages.items task) (result_err result) r.arms.now r.cut.was
   left_state =
       let was : r.left.was ≡ r.arms.now = cc (r.left.before, mid_has) in
       let now : r.left.now ≡ r.cut.was = cc (r.left.behind, r.cut.becomes.was) in
-      subst (λ (s : BankedState B). LeavesState log meter (doing_task mid.messages.items task) (IsOk result) s r.cut.was) was
-      (subst (λ (s : BankedState B). LeavesState log meter (doing_task mid.messages.items task) (IsOk result) r.left.was s) now r.left.left)
+      subst (λ (s : BankedState B). LeavesState log meter (doing_task mid.messages.items task) (result_err result) s r.cut.was) was
+      (subst (λ (s : BankedState B). LeavesState log meter (doing_task mid.messages.items task) (result_err result) r.left.was s) now r.left.left)
 
   -- ---- the meters
 
   was_unarmed : (meter (banks_of_state r.arms.was)).arm ≡ Unarmed
   was_unarmed = unarmed_at meter old.clones.items (number_of_task task) r.arms.was unarmed r.arms.becomes.was
 
-  set_meter : meter (banks_of_state r.arms.now) ≡ armed call leave (meter (banks_of_state r.arms.was))
+  pub set_meter : meter (banks_of_state r.arms.now) ≡ armed call leave (meter (banks_of_state r.arms.was))
   set_meter =
       ap (λ (s : BankedState B). meter (banks_of_state s)) r.arms.is.same ∙ ap meter (banks_other r.arms.was r.arms.is.banks) ∙ r.arms.is.meter_is
 
-  set_arm : (meter (banks_of_state r.arms.now)).arm ≡ Armed call leave
+  pub set_arm : (meter (banks_of_state r.arms.now)).arm ≡ Armed call leave
   set_arm = ap (λ (m : Meter). m.arm) set_meter ∙ arm_set call leave (meter (banks_of_state r.arms.was)) was_unarmed
 
   ran_goes : MeterGoesOn (meter (banks_of_state r.arms.was)) (meter r.cut.now)
@@ -304,7 +305,7 @@ module _ {B : Type 0} (log : B → Option Log) (meter : B → Meter) (tells : (b
   faults_here (Err (faults.Device clone)) two is by = elim is [
     | inl caught ↦
         subst (λ (t : Result Crashed WorldFault). HasFaultsAt (number_of_task task) (meter (banks_of_state r.arms.was)) (meter r.cut.now) t) (sym caught.1)
-        (quiet_on (caught_quiet log meter (doing_task mid.messages.items task) call leave r.arms.now r.cut.was (IsOk result) set_arm (r.cut.told.0 caught.0) left_state))
+        (quiet_on (caught_quiet log meter (doing_task mid.messages.items task) call leave r.arms.now r.cut.was (result_err result) set_arm (r.cut.told.0 caught.0) left_state))
     | inr real ↦
         subst (λ (t : Result Crashed WorldFault). HasFaultsAt (number_of_task task) (meter (banks_of_state r.arms.was)) (meter r.cut.now) t) (sym real.1)
         (by.0, failed_here real.0 by.1)
@@ -363,7 +364,7 @@ module _ {B : Type 0} (log : B → Option Log) (meter : B → Meter) (tells : (b
         let silent : done.messages.items ≡ mid.messages.items =
         subst (λ (one : Result Reply WorldFault). IsSilent one mid.messages.items done.messages.items) is r.unsent in
         let was : WasCaught call world task (steps + 1 + 1) (seen cut_revived.log) =
-        caught_by log meter tells call leave task (running_of mid steps) world set_stands sound mid.messages.items refl r.arms.now r.cut.was (IsOk result) mid_has still_armed known_armed set_arm
+        caught_by log meter tells call leave task (running_of mid steps) world set_stands sound mid.messages.items refl r.arms.now r.cut.was (result_err result) mid_has still_armed known_armed set_arm
         (r.cut.told.0 told) cut_log.0 cut_log.1 (seen cut_revived.log) cut_revived.left left_state in
         crash_ends log call leave task (running_of old steps) (running_of new (steps + 1)) world model.Crashed
         (stepped_into (memory_of (running_of old steps)) (number_of_task task) (states.Down tt)) r.cut.now cut_log.0 refl stands sound whole_becomes.now
@@ -386,11 +387,11 @@ module _ {B : Type 0} (log : B → Option Log) (meter : B → Meter) (tells : (b
     behind_step : (reply : Reply) → result ≡ Ok reply → IsTaskInForm task → FollowsOnBanks log world (Crash call leave task) (model.ThenCrashed (reply_value reply)) (running_of new (steps + 1))
     behind_step reply is form =
         let here : ℕ = number_of_task task in
-        let whole : IsOk result = subst (λ (one : Result Reply WorldFault). IsOk one) (sym is) refl in
+        let whole : result_err result ≡ None = subst (λ (one : Result Reply WorldFault). result_err one ≡ None) (sym is) refl in
         let does : Does log mid (command_of task) done reply = subst (λ (one : Result Reply WorldFault). IfOk one (Does log mid (command_of task) done)) is r.does in
         let f : FollowsOnBanks log world (command_of task) (reply_value reply) (running_of done (steps + 1)) = does.moves steps world set_stands sound in
         let did : Did call world task =
-        did_by log meter tells call leave task (running_of mid steps) world set_stands sound mid.messages.items refl r.arms.now r.cut.was (IsOk result) whole mid_has still_armed set_arm left_state in
+        did_by log meter tells call leave task (running_of mid steps) world set_stands sound mid.messages.items refl r.arms.now r.cut.was (result_err result) whole mid_has still_armed set_arm left_state in
         let down : IsDownOn f.next (steps + 1) here (log (banks_of_state r.cut.was)) =
         stopped_down log f.next (steps + 1) here r.cut.was
         (f.stands.memory.clones here (in_memory r.cut.was) (memory_at done.clones.items here r.cut.was r.cut.becomes.was))
@@ -421,14 +422,14 @@ module _ {B : Type 0} (log : B → Option Log) (meter : B → Meter) (tells : (b
   ran_done two form is = crashes_here result refl two form is
 
 -- what the command left of the clone, whose device was armed
-pub record RanLeft {B : Type 0} (log : B → Option Log) (meter : B → Meter) (task : CrashTask) (mid new : Parts B) (was set_up done_as : BankedState B) (now : B) (Whole : Type 0) : Type 0 where
+pub record RanLeft {B : Type 0} (log : B → Option Log) (meter : B → Meter) (task : CrashTask) (mid new : Parts B) (was set_up done_as : BankedState B) (now : B) (ended : Option WorldFault) : Type 0 where
   pub has_mid : HasState mid.clones.items (number_of_task task) set_up
   pub has_now : HasState new.clones.items (number_of_task task) (states.Down now)
   pub log_same : log (banks_of_state set_up) ≡ log (banks_of_state was)
-  pub left : LeavesState log meter (doing_task mid.messages.items task) Whole set_up done_as
+  pub left : LeavesState log meter (doing_task mid.messages.items task) ended set_up done_as
 
 pub ran_left : {B : Type 0} (log : B → Option Log) (meter : B → Meter) (call : ℕ) (leave : Leave) (task : CrashTask) (old mid done new : Parts B) (result : Result Reply WorldFault) (Told : Type 0)
-    → (r : Ran log meter call leave task old mid done new result Told) → RanLeft log meter task mid new r.arms.was r.arms.now r.cut.was r.cut.now (IsOk result)
+    → (r : Ran log meter call leave task old mid done new result Told) → RanLeft log meter task mid new r.arms.was r.arms.now r.cut.was r.cut.now (result_err result)
 ran_left {B = B} log meter call leave task old mid done new result Told r =
     let number : ℕ = number_of_task task in
     let has_mid : HasState mid.clones.items number r.arms.now =
@@ -440,8 +441,8 @@ ran_left {B = B} log meter call leave task old mid done new result Told r =
       has_now = subst (λ (l : List (BankedState B)). HasState l number (states.Down r.cut.now)) (sym r.cut.becomes.now)
           (set_here done.clones.items number r.cut.was (states.Down r.cut.now) r.cut.becomes.was);
       log_same = ap (λ (s : BankedState B). log (banks_of_state s)) r.arms.is.same ∙ ap log (banks_other r.arms.was r.arms.is.banks) ∙ r.arms.is.log_is;
-      left = subst (λ (s : BankedState B). LeavesState log meter (doing_task mid.messages.items task) (IsOk result) s r.cut.was) was
-          (subst (λ (s : BankedState B). LeavesState log meter (doing_task mid.messages.items task) (IsOk result) r.left.was s) now r.left.left);
+      left = subst (λ (s : BankedState B). LeavesState log meter (doing_task mid.messages.items task) (result_err result) s r.cut.was) was
+          (subst (λ (s : BankedState B). LeavesState log meter (doing_task mid.messages.items task) (result_err result) r.left.was s) now r.left.left);
     }
 
 -- ---- what `crash` has
@@ -450,7 +451,7 @@ ran_left {B = B} log meter call leave task old mid done new result Told r =
 pub ran_of : {B : Type 0} (log : B → Option Log) (meter : B → Meter) (call : ℕ) (leave : Leave) (task : CrashTask) (old mid done new : Parts B) (result : Result Reply WorldFault) (Told : Type 0)
     (number : ℕ) (state : BankedState B) → number ≡ number_of_task task → mid ≡ record old { clones = mid.clones } → ArmsAt log meter call leave number old.clones.items mid.clones.items
     → HasState old.clones.items number state → IsArmedIn state task → KeepsDomain meter (number_of_task task) mid done
-    → LeavesAt log meter (doing_task mid.messages.items task) (IsOk result) (number_of_task task) mid.clones.items done.clones.items
+    → LeavesAt log meter (doing_task mid.messages.items task) (result_err result) (number_of_task task) mid.clones.items done.clones.items
     → IsSilent result mid.messages.items done.messages.items → IfOk result (Does log mid (command_of task) done) → HasFaultsOfParts meter (number_of_task task) mid done result
     → CutsPower log meter number done.clones.items new.clones.items Told → new ≡ record done { clones = new.clones } → Ran log meter call leave task old mid done new result Told
 ran_of {B = B} log meter call leave task old mid done new result Told number state is begun arms at is_armed keeps left unsent does faults_are cut ended =

@@ -1,6 +1,7 @@
 -- What a command leaves of the banks of its clone, whatever it answers, as a front of its durable steps in the model.
-use Rattle.std.proofs.Common.{◌≡◌, ℕ, List, [], ◌∷◌, Option, Some, Result, IsOk, inl, inr, refl, sym, ◌∙◌, ap, subst, map}
+use Rattle.std.proofs.Common.{◌≡◌, ℕ, List, [], ◌∷◌, Option, Some, Result, inl, inr, refl, sym, ◌∙◌, ap, subst, map}
 use Rattle.std.specs.Prelude.{slice_get, IsSome}
+use Rattle.std.specs.Result.{result_err}
 use Rattle.mld_io.specs.Arm.{Arm, Meter}
 use Rattle.mld_io.specs.Disk.{Log, Sides, grown_by, seen, MayLeave, LeavesOnly}
 use Rattle.mld_io.specs.declared.banks.Leave.{Leave}
@@ -69,36 +70,35 @@ module _ {B : Type 0} (log : B → Option Log) (meter : B → Meter) (task : Cra
             (some_read before behind now reading steps was is told some image left),
       )
 
-  pub state_left : (was now : BankedState B) (Whole : Type 0) → HasState running.clones (number_of_task task) was → (before behind : Log) → log (banks_of_state was) ≡ Some before
-      → log (banks_of_state now) ≡ Some behind → LeavesState log meter (doing_task messages task) Whole was now
+  pub state_left : (was now : BankedState B) (ended : Option WorldFault) → HasState running.clones (number_of_task task) was → (before behind : Log) → log (banks_of_state was) ≡ Some before
+      → log (banks_of_state now) ≡ Some behind → LeavesState log meter (doing_task messages task) ended was now
       → LeavesOnly behind (LeftBy world (command_of task) (number_of_task task) before)
-  state_left was now Whole at before behind told is (leaves_same logs arms idle) image left =
-      inl (same_left before behind (log (banks_of_state was)) (log (banks_of_state now)) logs told is image left)
-  state_left (states.Live old) (states.Live new) Whole at before behind told is (leaves_live [] made went fronts) image left =
+  state_left was now ended at before behind told is (leaves_same same uncalled) image left =
+      inl (same_left before behind (log (banks_of_state was)) (log (banks_of_state now)) (ap log same) told is image left)
+  state_left (states.Live old) (states.Live new) ended at before behind told is (leaves_live [] some made went fronts) image left =
       inl (same_left before behind (log old.banks) (log new.banks) (ap log fronts) told is image left)
-  state_left (states.Live old) (states.Live new) Whole at before behind told is (leaves_live (step ∷ steps) made went fronts) image left =
+  state_left (states.Live old) (states.Live new) ended at before behind told is (leaves_live (step ∷ steps) some made went fronts) image left =
       let moments = fronts before told in
       some_left before behind (log new.banks) (Keeps (kept_as moments.0 old.generation old.local)) (step ∷ steps) (meter old.banks).arm (meter new.banks).arm is moments.1
       (changes_deed (memory_of running) world stands.memory sound messages are task old.local (step ∷ steps) moments.0 old.generation
       (live_at (memory_of running) world stands.memory (number_of_task task) old.local (memory_at running.clones (number_of_task task) (states.Live old) at)) made)
       image left
-  state_left (states.Asking old) now Whole at before behind told is (leaves_made leaf takes went made) image left =
+  state_left (states.Asking old) now ended at before behind told is (leaves_made leaf takes went made) image left =
       some_left before behind (log (banks_of_state now)) KeepsNone (Created (head_of (joined_clone old.asker leaf)) ∷ []) (meter old.banks).arm (meter (banks_of_state now)).arm is (made before told)
       (takes_deed (memory_of running) world stands.memory sound messages are task old.asker leaf
       (asking_at (memory_of running) world stands.memory (number_of_task task) old.asker (memory_at running.clones (number_of_task task) (states.Asking old) at)) takes)
       image left
-  state_left (states.Down old) now Whole at before behind told is (leaves_opened went no_more) image left =
+  state_left (states.Down old) now ended at before behind told is (leaves_opened may went no_more) image left =
       inl (now_left before behind (log (banks_of_state now)) image (no_more before told) is left)
 
 -- a command that does nothing on banks
-nothing_left : {B : Type 0} (log : B → Option Log) (meter : B → Meter) (was now : BankedState B) (Whole : Type 0) (before behind : Log) → log (banks_of_state was) ≡ Some before
-    → log (banks_of_state now) ≡ Some behind → LeavesState log meter doing_nothing Whole was now → (image : Sides) → MayLeave behind image → MayLeave before image
-nothing_left log meter was now Whole before behind told is (leaves_same logs arms idle) image left =
-    same_left before behind (log (banks_of_state was)) (log (banks_of_state now)) logs told is image left
-nothing_left log meter (states.Live old) (states.Live new) Whole before behind told is (leaves_live steps made went fronts) image left = absurd made
-nothing_left log meter (states.Asking old) now Whole before behind told is (leaves_made leaf takes went made) image left = absurd takes
-nothing_left log meter (states.Down old) now Whole before behind told is (leaves_opened went no_more) image left =
-    now_left before behind (log (banks_of_state now)) image (no_more before told) is left
+nothing_left : {B : Type 0} (log : B → Option Log) (meter : B → Meter) (was now : BankedState B) (ended : Option WorldFault) (before behind : Log) → log (banks_of_state was) ≡ Some before
+    → log (banks_of_state now) ≡ Some behind → LeavesState log meter doing_nothing ended was now → (image : Sides) → MayLeave behind image → MayLeave before image
+nothing_left log meter was now ended before behind told is (leaves_same same uncalled) image left =
+    same_left before behind (log (banks_of_state was)) (log (banks_of_state now)) (ap log same) told is image left
+nothing_left log meter (states.Live old) (states.Live new) ended before behind told is (leaves_live steps some made went fronts) image left = absurd made
+nothing_left log meter (states.Asking old) now ended before behind told is (leaves_made leaf takes went made) image left = absurd takes
+nothing_left log meter (states.Down old) now ended before behind told is (leaves_opened may went no_more) image left = absurd may
 
 -- ---- the banks of the clone
 
@@ -109,17 +109,17 @@ module _ {B : Type 0} (log : B → Option Log) (meter : B → Meter) (old new : 
       let same : banks_of_state state ≡ banks = cc (banks_at meter clones number state at, has) in
       ap log same ∙ is
 
-  pub task_leaves : (task : CrashTask) (Whole : Type 0) → LeavesAt log meter (doing_task old.messages.items task) Whole (number_of_task task) old.clones.items new.clones.items
+  pub task_leaves : (task : CrashTask) (ended : Option WorldFault) → LeavesAt log meter (doing_task old.messages.items task) ended (number_of_task task) old.clones.items new.clones.items
       → LeavesBanksOf log old (command_of task) (number_of_task task) new
-  task_leaves task Whole left steps world stands sound was now before behind had has told is =
+  task_leaves task ended left steps world stands sound was now before behind had has told is =
       let number : ℕ = number_of_task task in
-      state_left log meter task (running_of old steps) world stands sound old.messages.items refl left.was left.now Whole left.before before behind
+      state_left log meter task (running_of old steps) world stands sound old.messages.items refl left.was left.now ended left.before before behind
       (log_of old.clones.items number left.was was before left.before had told) (log_of new.clones.items number left.now now behind left.behind has is) left.left
 
-  pub nothing_leaves : (command : Command) (number : ℕ) (Whole : Type 0) → LeavesAt log meter doing_nothing Whole number old.clones.items new.clones.items
+  pub nothing_leaves : (command : Command) (number : ℕ) (ended : Option WorldFault) → LeavesAt log meter doing_nothing ended number old.clones.items new.clones.items
       → LeavesBanksOf log old command number new
-  nothing_leaves command number Whole left steps world stands sound was now before behind had has told is image crash =
-      inl (nothing_left log meter left.was left.now Whole before behind
+  nothing_leaves command number ended left steps world stands sound was now before behind had has told is image crash =
+      inl (nothing_left log meter left.was left.now ended before behind
       (log_of old.clones.items number left.was was before left.before had told) (log_of new.clones.items number left.now now behind left.behind has is) left.left image crash)
 
   pub same_leaves : (command : Command) (number : ℕ) → new.clones.items ≡ old.clones.items → LeavesBanksOf log old command number new
@@ -148,4 +148,4 @@ ran_leaves log meter tells call leave task old mid done new result Told r steps 
     subst (λ (one : Log). (i : Sides) → MayLeave one i → i ≡ seen one) same revived.settled image crash in
     let left : MayLeave l.0 image = subst (λ (i : Sides). MayLeave l.0 i) (sym settled) (subst (λ (one : Log). MayLeave l.0 (seen one)) same revived.left) in
     state_left log meter task (running_of mid steps) world
-    (mid_stands log meter call leave number old mid r.begun r.arms steps world stands) sound mid.messages.items refl r.arms.now r.cut.was (IsOk result) f.has_mid before l.0 at_mid l.1 f.left image left
+    (mid_stands log meter call leave number old mid r.begun r.arms steps world stands) sound mid.messages.items refl r.arms.now r.cut.was (result_err result) f.has_mid before l.0 at_mid l.1 f.left image left

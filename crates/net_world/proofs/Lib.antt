@@ -11,6 +11,7 @@ pub mod DeedLemmas
 pub mod CaughtLemmas
 pub mod CrashLemmas
 pub mod LeftFronts
+pub mod DeviceLemmas
 pub mod SettledBanks
 pub mod FoundingFronts
 pub mod SettledSteps

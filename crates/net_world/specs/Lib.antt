@@ -5,6 +5,7 @@ pub mod Founding
 pub mod FoundingLeft
 pub mod CrashedWorlds
 pub mod LeftBehind
+pub mod DeviceUses
 pub mod SettledWorlds
 pub mod Commands
 pub mod WorldSummary

@@ -1,11 +1,13 @@
 //! Commands: each has a function of its name in a file of its own, which gives its reply.
 ghost use Rattle.std.specs.Prelude.{◌≡◌, map, vec_len, IfErr, OnOk, OnErr};
+ghost use Rattle.std.specs.Result.{result_err};
 ghost use Rattle.mld_model.specs.Local.{IsNamed};
 ghost use Rattle.mld_model.specs.World.{clone_count};
 ghost use Rattle.schedule_text.specs.schedule_model.Step.{HasCloneNumbers, IsCommandInForm, number_of_clone};
 ghost use Rattle.net_world.specs.Commands.{Answered, TellsReply, FailsToTell, TellsCrash};
 ghost use Rattle.net_world.specs.CrashedWorlds.{AreUnarmed};
 ghost use Rattle.net_world.specs.LeftBehind.{LeavesBanksOf};
+ghost use Rattle.net_world.specs.DeviceUses.{UsesDeviceAfter};
 ghost use Rattle.schedule_text.specs.schedule_model.Tasks.{command_done};
 ghost use Rattle.world_commands.specs.WorldBanks.{banks_of_state};
 ghost use Rattle.world_commands.specs.WorldParts.{HasStepLeft, KeepsDomain, HasFaultsOfParts};
@@ -46,6 +48,7 @@ pub fn answer<R: Threads + Sync, B: CrashBanks>(
     ensures left { LeavesBanksOf B.log parts.old (command_done command.now) (number_of_clone command.now) parts.new }
     ensures done { OnOk result (Answered B.log parts.old command.now parts.new out.old.items out.new.items) }
     ensures faults { HasFaultsOfParts B.meter (number_of_clone command.now) parts.old parts.new result }
+    ensures device { UsesDeviceAfter B.log B.meter parts.old command.now parts.new (result_err result) }
     ensures out { OnErr result (out.new.items ≡ out.old.items) }
 {
     match command {

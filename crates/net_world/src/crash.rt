@@ -1,13 +1,16 @@
 //! The line `crash`: the device of a clone is armed to crash at a call, a command is done, and then the clone is down with what the crash
 //! leaves.
-ghost use Rattle.std.specs.Prelude.{◌≡◌, ◌↔◌, ◌<◌, vec_len, map, IsTrue, IsOk, IfOk};
+ghost use Rattle.std.specs.Prelude.{◌≡◌, ◌↔◌, ◌<◌, vec_len, map, IsTrue, IfOk};
+ghost use Rattle.std.specs.Result.{result_err};
 ghost use Rattle.mld_model.specs.Local.{IsNamed};
 ghost use Rattle.schedule_text.specs.schedule_model.Step.{IsTaskInForm};
+ghost use Rattle.schedule_text.specs.schedule_model.declared.Command.TheVariants as commands;
 ghost use Rattle.schedule_text.specs.schedule_model.Tasks.{command_of, number_of_task, IsToOpen};
 ghost use Rattle.world_commands.specs.LeftBanks.{LeavesAt, IsSilent};
 ghost use Rattle.world_commands.specs.WorldBanks.{banks_of_state};
 ghost use Rattle.world_commands.specs.WorldParts.{HasStepLeft, KeepsDomain, HasFaultsOfParts, Does};
 ghost use Rattle.net_world.specs.LeftBehind.{LeavesBanksOf};
+ghost use Rattle.net_world.specs.DeviceUses.{UsesDeviceAfter};
 ghost use Rattle.net_world.specs.CrashedWorlds.{AreUnarmed, IsArmedIn, IsArmedAs, ArmsAt, CutsPower, doing_task, IsEndedAs, IsUnarmedAs, CrashesAs};
 
 use mld_io::{Banks, CrashBanks, Leave};
@@ -35,7 +38,7 @@ pub enum Crashed {
 }
 
 /// Does a crash line: the call of this number, the first of which is 0, is caught. Its device, where it was armed, is revived however the
-/// command ended, and leaves so much of what wasn't synced; the clone is down then.
+/// command ended, and leaves so much of what wasn't synced; the clone is down then. One that isn't armed isn't called.
 ///
 /// # Errors
 ///
@@ -57,6 +60,8 @@ pub fn crash<R: Threads + Sync, B: CrashBanks>(
     ensures done { IfOk result (CrashesAs B.log parts.old call leave task.now parts.new) }
     ensures left { LeavesBanksOf B.log parts.old (command_of task.now) (number_of_task task.now) parts.new }
     ensures faults { HasFaultsOfParts B.meter (number_of_task task.now) parts.old parts.new result }
+    ensures device { UsesDeviceAfter B.log B.meter parts.old (commands.Crash call leave task.now) parts.new
+        (result_err result) }
 {
     let number = number_of(task);
     if !is_armed(&parts.clones[usize::from(number)], task) {
@@ -162,7 +167,7 @@ fn do_task<R: Threads + Sync, B: CrashBanks>(
     requires form { IsTaskInForm task.now }
     ensures keeps { KeepsDomain B.meter (number_of_task task.now) parts.old parts.new }
     ensures done { IfOk result (Does B.log parts.old (command_of task.now) parts.new) }
-    ensures left { LeavesAt B.log B.meter (doing_task parts.old.messages.items task.now) (IsOk result)
+    ensures left { LeavesAt B.log B.meter (doing_task parts.old.messages.items task.now) (result_err result)
         (number_of_task task.now) parts.old.clones.items parts.new.clones.items }
     ensures unsent { IsSilent result parts.old.messages.items parts.new.messages.items }
     ensures faults { HasFaultsOfParts B.meter (number_of_task task.now) parts.old parts.new result }

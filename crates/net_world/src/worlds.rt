@@ -39,6 +39,7 @@ impl<B: CrashBanks> Model for World<B> {
 
 impl<B: CrashBanks> World<B> {
     ghost use Rattle.std.specs.Prelude.{◌≡◌, ◌+◌, ◌<◌, vec_len, IsTrue, IfOk, IfErr, OnOk, OnErr};
+    ghost use Rattle.std.specs.Result.{result_err};
     ghost use Rattle.schedule_text.specs.schedule_model.WorldStep.{step_limit};
     ghost use Rattle.text_rules.specs.Domain.{is_domain};
     ghost use Rattle.mld_model.specs.World.{World as ModelWorld, clone_count};
@@ -50,6 +51,7 @@ impl<B: CrashBanks> World<B> {
     ghost use Rattle.net_world.specs.FoundingLeft.{LeavesFounded};
     ghost use Rattle.net_world.specs.CrashedWorlds.{AreUnarmed};
     ghost use Rattle.net_world.specs.LeftBehind.{LeavesBanks};
+    ghost use Rattle.net_world.specs.DeviceUses.{UsesDeviceOf};
     ghost use Rattle.net_world.specs.SettledWorlds.{SettlesWorld, SettlesFounded};
     ghost use Rattle.world_commands.specs.Worlds.{IsStanding, Stepped};
     ghost use Rattle.net_world.specs.WorldSummary.{Tells};
@@ -126,14 +128,15 @@ impl<B: CrashBanks> World<B> {
     }
 
     /// Does a command or a crash line, and adds the text of its reply to the output. No banks may be armed; a crash line arms those of its
-    /// clone, and none is armed behind it. A command uses the banks of its clone alone, and whatever it answers, a crash leaves of them what it
-    /// might have left before, or what stands for the clone after a front of the command's durable steps. Where a crash left of all banks what
-    /// stands for their clones, it does so again behind a command that was done. After `Device` and `NoMemory` the
-    /// world may have done a part of it, and is only asked for its banks; the output is as it was.
+    /// clone by its own call and leave, and none is armed behind it. A command calls the device where it has durable steps or
+    /// opens a clone that is down, and nowhere else. A command uses the banks of its clone alone, and whatever it answers, a crash leaves of them
+    /// what it might have left before, or what stands for the clone after a front of the command's durable steps. Where a crash left of all banks
+    /// what stands for their clones, it does so again behind a command that was done. After `Device` and `NoMemory` the world may have done a part
+    /// of it, and is only asked for its banks; the output is as it was.
     ///
     /// # Errors
     ///
-    /// `Device` where the device of the command's clone failed, which it names, and no arm caught the call; and `NoMemory`.
+    /// `Device` where the device of the command's clone failed, which it names and the command needs, and no arm caught the call; and `NoMemory`.
     pub fn step<R: Threads + Sync>(
         &mut self,
         rt: &R,
@@ -152,6 +155,7 @@ impl<B: CrashBanks> World<B> {
         ensures meters { MetersGoOn B.meter (banks_of self.old) (banks_of self.new) }
         ensures faults { HasFaultsFor (number_of_clone command.now) B.meter
             (banks_of self.old) (banks_of self.new) result }
+        ensures device { UsesDeviceOf B.log B.meter self.old command.now (banks_of self.new) (result_err result) }
         ensures left { LeavesBanks B.log self.old command.now (banks_of self.new) }
         ensures settled { OnOk result (SettlesWorld B.log self.old command.now self.new) }
         ensures others { OthersStay (number_of_clone command.now) (banks_of self.old) (banks_of self.new) }

@@ -1,10 +1,11 @@
-use Rattle.std.proofs.Common.{◌+◌, List, Err, arith, ap, map, subst}
+use Rattle.std.proofs.Common.{◌+◌, List, None, Some, Err, arith, ap, map, subst}
 use Rattle.std.proofs.lemmas.Result.{err_from_is_err_and}
 use Rattle.schedule_text.specs.schedule_model.Step.{number_of_clone}
 use Rattle.world_commands.specs.WorldBanks.{BankedWorld, banks_of_state, HadNoFaults, HasFaultsFor}
 use Rattle.world_commands.specs.WorldParts.{running_of}
 use Rattle.world_commands.specs.Worlds.{Stepped}
 use Rattle.schedule_text.specs.schedule_model.Tasks.{command_done}
+use Rattle.net_world.specs.DeviceUses.{UsesDeviceOf}
 use Rattle.net_world.specs.LeftBehind.{LeavesBanksAt}
 use Rattle.net_world.specs.SettledWorlds.{SettlesWorld, LiveKept}
 use Rattle.net_world.proofs.SettledSteps.{number_within, step_settles}
@@ -34,6 +35,7 @@ returns g c =
       meters = used.meters;
       faults = subst (λ (l : List g.row.B.Denot). HadNoFaults g.B.Banks.meter l (map banks_of_state new.clones.items)) begun c.in_ok-answer.ensures.faults;
       others = used.others;
+      device = subst (λ (w : BankedWorld g.row.B.Denot). UsesDeviceOf g.B.Banks.log g.B.Banks.meter w c.args.command.now (map banks_of_state new.clones.items) None) c.self.view_is (c.in_ok-answer.ensures.device steps);
       left = subst (λ (w : BankedWorld g.row.B.Denot). LeavesBanksAt g.B.Banks.log w (command_done c.args.command.now) (number_of_clone c.args.command.now) (map banks_of_state new.clones.items)) c.self.view_is (c.in_ok-answer.ensures.left steps);
       settled = subst (λ (w : BankedWorld g.row.B.Denot). SettlesWorld g.B.Banks.log w c.args.command.now (running_of new (steps + 1))) c.self.view_is (λ world stands sound images reply next step sound_next now.
           step_settles g.B.Banks.log g.met.B.CrashBanks.tells (running_of c.self.inside.parts steps) (running_of new (steps + 1)) c.args.command.now c.requires.numbers c.requires.form (c.in_ok-answer.ensures.left steps)
@@ -55,6 +57,7 @@ returns-in_err-answer g c =
       meters = used.meters;
       faults = subst (λ (l : List g.row.B.Denot). HasFaultsFor {T = Unit {0}} (number_of_clone c.args.command.now) g.B.Banks.meter l (map banks_of_state new.clones.items) (Err c.in_err-answer.field-0.0)) begun c.in_err-answer.ensures.faults;
       others = used.others;
+      device = subst (λ (w : BankedWorld g.row.B.Denot). UsesDeviceOf g.B.Banks.log g.B.Banks.meter w c.args.command.now (map banks_of_state new.clones.items) (Some c.in_err-answer.field-0.0)) c.self.view_is (c.in_err-answer.ensures.device steps);
       left = subst (λ (w : BankedWorld g.row.B.Denot). LeavesBanksAt g.B.Banks.log w (command_done c.args.command.now) (number_of_clone c.args.command.now) (map banks_of_state new.clones.items)) c.self.view_is (c.in_err-answer.ensures.left steps);
       settled = tt;
       out = c.in_err-answer.ensures.out;
