@@ -14,7 +14,7 @@ use Rattle.mld_io.specs.Lines.{lines_of, after_line, IsCutShort}
 use Rattle.mld_io.proofs.LinesLaws.{first_of_lines_lem}
 use Rattle.schedule_text.specs.schedule_model.Runs.{Stage, Waiting, Acts, Runs, bad_line, no_domain, IsBad, RunsBefore, Verdict}
 use Rattle.mld_replay.specs.Ran.{Saying, Finishes, StopsAtBad, StopsAtLarge, BreaksOff, WritesFront, WritesWhole, fails_amid, short_amid, short_writing, short_of_banks, ReplayEnds, CountsReads, CountsWrites}
-use Rattle.mld_replay.specs.BanksLeft.{AreLeftAmid}
+use Rattle.mld_replay.specs.BanksLeft.{AreLeftAmid, FailsAmid}
 use Rattle.mld_replay.specs.Replaying.{says_by, run_fault_of_input, run_fault_of_write, IsReplayFault, IsLineFault}
 use Rattle.mld_replay.specs.Stages.{StageStands, IsStandingStage, ActsWell, EndsWell, steps_of_stage, banks_of_stage}
 use Rattle.mld_replay.specs.declared.stages.Stage.{Stage as RunningStage}
@@ -332,7 +332,7 @@ pub ends_stopped : {B : Type 0} (log : B → Option Log) (given left before now 
     → ReplayEnds (says_by log next) (Some fault) bytes rest before now
 ends_stopped log given left before now size running next done way bytes lines rest (faults.BadLine at) whole doing bad amid = bad at refl
 ends_stopped log given left before now size running next done way bytes lines rest (faults.Device clone) whole doing bad amid =
-    fails_amid (whole_with log (AreLeftAmid log (banks_of_stage next)) given left before now size running done way bytes lines whole (amid way.stage way.stands))
+    fails_amid (whole_with log (FailsAmid log (banks_of_stage next) clone) given left before now size running done way bytes lines whole (amid way.stage way.stands))
 ends_stopped log given left before now size running next done way bytes lines rest faults.NoMemory whole doing bad amid = elim (amid way.stage way.stands) [
   | inl none ↦ short_of_banks none (inl (whole_with log (λ stage behind. Unit {0}) given left before now size running done way bytes lines whole tt))
   | inr some ↦ short_amid (whole_with log (AreLeftAmid log (banks_of_stage next)) given left before now size running done way bytes lines whole some)

@@ -1,9 +1,10 @@
 -- What a crash may leave of the banks behind a line that was not done.
-use Rattle.std.proofs.Common.{◌≡◌, ℕ, List, [], ◌∷◌, Option, Some, Vec, Global, refl, sym, ◌∙◌, ap, arith, subst, inl, inr}
-use Rattle.std.specs.Prelude.{Result, Ok, Err, OnErr, IfErr, IsSome, slice_get}
+use Rattle.std.proofs.Common.{◌≡◌, ◌≢◌, ℕ, List, [], ◌∷◌, Option, Some, Vec, Global, refl, sym, ◌∙◌, ap, arith, subst, inl, inr}
+use Rattle.std.specs.Prelude.{Result, Ok, Err, OnErr, IfErr, IsErrOf, IsSome, slice_get}
 use Rattle.std.proofs.lemmas.Bool.{cases_eq}
 use Rattle.std.proofs.lemmas.List.{length-map}
 use Rattle.std.proofs.lemmas.Option.{slice_get_cases}
+use Rattle.mld_io.specs.Arm.{Meter}
 use Rattle.mld_io.specs.Disk.{Log}
 use Rattle.mld_model.specs.Sound.{IsSound}
 use Rattle.mld_model.specs.World.{World}
@@ -12,24 +13,40 @@ use Rattle.schedule_text.specs.schedule_model.Runs.{Stage, Waiting, SetUp, Runni
 use Rattle.schedule_text.specs.schedule_model.Schedule.{SpellsCommand}
 use Rattle.schedule_text.specs.schedule_model.Step.{HasCloneNumbers, number_of_clone}
 use Rattle.schedule_text.proofs.of_schedule_model.ScheduleLaws.{spells_numbers}
+use Rattle.schedule_text.specs.declared.refusals.LineRefusal.{LineRefusal}
+use Rattle.schedule_text.specs.declared.refusals.LineRefusal.TheVariants as refusals
 use Rattle.schedule_text.specs.declared.setups.Setup.{Setup}
 use Rattle.schedule_text.specs.ReadLines.{setup_of, CommandIs}
 use Rattle.net_world.specs.world_commands.declared.faults.WorldFault.{WorldFault}
 use Rattle.net_world.specs.world_commands.declared.faults.WorldFault.TheVariants as worlds
-use Rattle.net_world.specs.world_commands.WorldBanks.{BankedWorld, in_memory, banks_of, banks_of_state, StandsOnBanks}
+use Rattle.net_world.specs.world_commands.WorldBanks.{BankedWorld, in_memory, banks_of, banks_of_state, StandsOnBanks, OthersStay, HasFaultsFor}
 use Rattle.net_world.proofs.of_world_commands.StopLemmas.{told_log}
+use Rattle.net_world.specs.DeviceUses.{UsesDeviceOf}
 use Rattle.net_world.specs.FoundingLeft.{LeavesFounded}
+use Rattle.net_world.specs.LeftBehind.{LeavesBanks}
 use Rattle.net_world.specs.SettledWorlds.{AllImagesStand, AreBlank}
+use Rattle.net_world.proofs.DeviceLemmas.{device_needs}
 use Rattle.net_world.proofs.SettledBanks.{nothing_left}
 use Rattle.net_world.proofs.SettledSteps.{number_within}
-use Rattle.mld_replay.specs.BanksLeft.{AllReadNone, IsDueAt, StandsInCommand, AllStandInCommand, AreLeftAmid, left_blank, left_founding, left_between, left_in_command}
+use Rattle.mld_replay.specs.BanksLeft.{AllReadNone, IsDueAt, StandsInCommand, AllStandInCommand, AreLeftAmid, left_blank, left_between, left_in_command, FailsAmid, fails_founding, fails_in_command}
 use Rattle.mld_replay.specs.Stages.{StageStands, SpellsAt, LeavesRefusedCommand, EndsWell, banks_of_stage}
-use Rattle.mld_replay.specs.Stops.{fault_at_line, stop_of_world, LeavesAtStop, StopLeaves, LeavesAtFault}
+use Rattle.mld_replay.specs.Stops.{fault_at_line, stop_of, stop_of_world, LeavesAtStop, StopLeaves, LeavesAtFault}
 use Rattle.mld_replay.specs.declared.stages.Stage.{Stage as RunningStage}
 use Rattle.mld_replay.specs.declared.stages.Stage.TheVariants as stages
 use Rattle.mld_replay.specs.declared.stops.LineStop.{LineStop}
 use Rattle.mld_replay.specs.declared.stops.LineStop.TheVariants as stops
 use Rattle.mld_replay.proofs.StageLemmas.{spells_founded, spells_read, spells_set_up}
+
+-- ---- a line that no device stopped
+
+-- it wasn't read
+pub unread_unfailed : (refusal : LineRefusal) (clone : ℕ) → stop_of refusal ≢ stops.Device clone
+unread_unfailed refusals.BadLine clone is = absurd (cc (is))
+unread_unfailed refusals.NoMemory clone is = absurd (cc (is))
+
+-- or memory ran out
+pub want_unfailed : (stop : LineStop) → stop ≡ stops.NoMemory → (clone : ℕ) → stop ≢ stops.Device clone
+want_unfailed stop want clone is = absurd (cc (sym want ∙ is))
 
 module _ {B : Type 0} (log : B → Option Log) where
   -- ---- the banks are as they were
@@ -51,26 +68,47 @@ module _ {B : Type 0} (log : B → Option Log) where
   still_left (stages.Over banks) stage lines stands = absurd stands
 
   -- what is left is so for each stop
-  stopped_by : (stop : LineStop) (banks : List B) (stage : Stage) (lines : List (List ℕ)) → AreLeftAmid log banks stage lines → LeavesAtStop log banks stage lines stop
-  stopped_by stops.BadLine banks stage lines left = tt
-  stopped_by (stops.Device clone) banks stage lines left = left
-  stopped_by stops.NoMemory banks stage lines left = inr left
+  stopped_by : (stop : LineStop) (banks : List B) (stage : Stage) (lines : List (List ℕ)) → AreLeftAmid log banks stage lines
+      → ((clone : ℕ) → stop ≡ stops.Device clone → FailsAmid log banks clone stage lines) → LeavesAtStop log banks stage lines stop
+  stopped_by stops.BadLine banks stage lines left fails = tt
+  stopped_by (stops.Device clone) banks stage lines left fails = fails clone refl
+  stopped_by stops.NoMemory banks stage lines left fails = inr left
 
-  pub stops_still : (old : RunningStage B) (banks : List B) (lines : List (List ℕ)) (stop : LineStop) → banks ≡ banks_of_stage old → StopLeaves log old banks lines stop
-  stops_still old banks lines stop same stage stands =
-      stopped_by stop banks stage lines (subst (λ (l : List B). AreLeftAmid log l stage lines) (sym same) (still_left old stage lines stands))
+  pub stops_still : (old : RunningStage B) (banks : List B) (lines : List (List ℕ)) (stop : LineStop) → ((clone : ℕ) → stop ≢ stops.Device clone) → banks ≡ banks_of_stage old
+      → StopLeaves log old banks lines stop
+  stops_still old banks lines stop unfailed same stage stands =
+      stopped_by stop banks stage lines (subst (λ (l : List B). AreLeftAmid log l stage lines) (sym same) (still_left old stage lines stands)) (λ clone is. absurd (unfailed clone is))
 
   -- so it is where a refused call left the state as it was
-  pub stops_kept : {T : Type 0} (result : Result T LineStop) (old new : RunningStage B) (line : List ℕ) → OnErr result (new ≡ old)
+  pub stops_kept : {T : Type 0} (result : Result T LineStop) (old new : RunningStage B) (line : List ℕ) → ((clone : ℕ) → ¬ IsErrOf result (stops.Device clone)) → OnErr result (new ≡ old)
       → IfErr result (λ stop. (rest : List (List ℕ)) → StopLeaves log old (banks_of_stage new) (line ∷ rest) stop)
-  stops_kept (Ok value) old new line kept = tt
-  stops_kept (Err stop) old new line kept = λ rest. stops_still old (banks_of_stage new) (line ∷ rest) stop (ap (λ (s : RunningStage B). banks_of_stage s) kept)
+  stops_kept (Ok value) old new line unfailed kept = tt
+  stops_kept (Err stop) old new line unfailed kept = λ rest.
+      stops_still old (banks_of_stage new) (line ∷ rest) stop (λ clone is. unfailed clone (ap (λ (s : LineStop). Err s) is)) (ap (λ (s : RunningStage B). banks_of_stage s) kept)
 
   -- ---- a command was refused
 
-  in_command : (tells : (banks : B) → IsSome (log banks)) (old : BankedWorld B) (command : Command) (new : List B) (world : World) → HasCloneNumbers command → StandsOnBanks log old world → IsSound world
-      → AllImagesStand log world (banks_of old) → LeavesRefusedCommand log old command new → AllStandInCommand log world command new
-  in_command tells old command new world numbers stands sound images stops number one l at told image crash = elim (cases_eq number (number_of_clone command)) [
+  -- what its world tells of it
+  pub command_refused : (meter : B → Meter) (old : BankedWorld B) (command : Command) (new : List B) (fault : WorldFault) → LeavesBanks log old command new
+      → OthersStay (number_of_clone command) (banks_of old) new → HasFaultsFor {T = Unit {0}} (number_of_clone command) meter (banks_of old) new (Err fault)
+      → UsesDeviceOf log meter old command new (Some fault) → LeavesRefusedCommand log old command new (stop_of_world fault)
+  command_refused meter old command new (worlds.Device number) left others faults_are uses = record {
+    left = left;
+    others = others;
+    names = λ clone is. let same : number ≡ clone = cc (is) in sym same ∙ faults_are.0;
+    needs = λ clone is world stands sound.
+        device_needs log meter world command faults_are.1.was faults_are.1.now number (uses world stands sound faults_are.1.was faults_are.1.now faults_are.1.before faults_are.1.behind);
+  }
+  command_refused meter old command new worlds.NoMemory left others faults_are uses = record {
+    left = left;
+    others = others;
+    names = λ clone is. absurd (cc (is));
+    needs = λ clone is. absurd (cc (is));
+  }
+
+  in_command : (tells : (banks : B) → IsSome (log banks)) (old : BankedWorld B) (command : Command) (new : List B) (stop : LineStop) (world : World) → HasCloneNumbers command → StandsOnBanks log old world → IsSound world
+      → AllImagesStand log world (banks_of old) → LeavesRefusedCommand log old command new stop → AllStandInCommand log world command new
+  in_command tells old command new stop world numbers stands sound images stops number one l at told image crash = elim (cases_eq number (number_of_clone command)) [
     | inl same ↦
         let own : ℕ = number_of_clone command in
         let here : slice_get new own ≡ Some one = subst (λ (k : ℕ). slice_get new k ≡ Some one) same at in
@@ -87,7 +125,7 @@ module _ {B : Type 0} (log : B → Option Log) where
   ]
 
   pub commanded_left : {T : Type 0} (tells : (banks : B) → IsSome (log banks)) (result : Result T LineStop) (domain line : List ℕ) (command : Command) (old new : BankedWorld B)
-      → domain ≡ old.domain → SpellsCommand domain line command → OnErr result (LeavesRefusedCommand log old command (banks_of new))
+      → domain ≡ old.domain → SpellsCommand domain line command → IfErr result (LeavesRefusedCommand log old command (banks_of new))
       → IfErr result (λ stop. (rest : List (List ℕ)) → StopLeaves log (stages.Running old) (banks_of new) (line ∷ rest) stop)
   commanded_left tells (Ok value) domain line command old new same spells left = tt
   commanded_left tells (Err stop) domain line command old new same spells left = λ rest. at rest
@@ -96,21 +134,23 @@ module _ {B : Type 0} (log : B → Option Log) where
       at rest Waiting stands = absurd stands
       at rest (SetUp model) stands = absurd stands
       at rest (Running model) stands =
-          stopped_by stop (banks_of new) (Running model) (line ∷ rest)
-          (left_in_command model command refl (subst (λ (d : List ℕ). SpellsCommand d line command) (same ∙ stands.0.memory.domain) spells)
-          (in_command tells old command (banks_of new) model (spells_numbers domain line command spells) stands.0 stands.1 stands.2 left))
+          let spelled : SpellsCommand model.domain line command = subst (λ (d : List ℕ). SpellsCommand d line command) (same ∙ stands.0.memory.domain) spells in
+          let stand = in_command tells old command (banks_of new) stop model (spells_numbers domain line command spells) stands.0 stands.1 stands.2 left in
+          stopped_by stop (banks_of new) (Running model) (line ∷ rest) (left_in_command model command refl spelled stand)
+          (λ clone is. fails_in_command model command refl spelled (left.names clone is) (left.needs clone is model stands.0 stands.1) stand)
 
   -- the first one
   pub started_left : {T : Type 0} (tells : (banks : B) → IsSome (log banks)) (result : Result T LineStop) (state : RunningStage B) (command : Command) (old new : BankedWorld B) → HasCloneNumbers command
-      → ((stage : Stage) → StageStands log state stage → EndsWell log stage (stages.Running old)) → OnErr result (LeavesRefusedCommand log old command (banks_of new))
+      → ((stage : Stage) → StageStands log state stage → EndsWell log stage (stages.Running old)) → IfErr result (LeavesRefusedCommand log old command (banks_of new))
       → IfErr result (λ stop. (line : List ℕ) (rest : List (List ℕ)) (stage : Stage) → StageStands log state stage → SpellsAt stage line command
       → LeavesAtStop log (banks_of new) stage (line ∷ rest) stop)
   started_left tells (Ok value) state command old new numbers founded left = tt
   started_left tells (Err stop) state command old new numbers founded left = λ line rest stage stands spells.
       let ended : EndsWell log stage (stages.Running old) = founded stage stands in
-      stopped_by stop (banks_of new) stage (line ∷ rest)
-      (left_in_command ended.world command ended.founds (spells_founded stage ended.world line command ended.founds spells)
-      (in_command tells old command (banks_of new) ended.world numbers ended.stands.0 ended.stands.1 ended.stands.2 left))
+      let spelled : SpellsCommand ended.world.domain line command = spells_founded stage ended.world line command ended.founds spells in
+      let stand = in_command tells old command (banks_of new) stop ended.world numbers ended.stands.0 ended.stands.1 ended.stands.2 left in
+      stopped_by stop (banks_of new) stage (line ∷ rest) (left_in_command ended.world command ended.founds spelled stand)
+      (λ clone is. fails_in_command ended.world command ended.founds spelled (left.names clone is) (left.needs clone is ended.world ended.stands.0 ended.stands.1) stand)
 
   -- of the line that spells it
   pub stopped_here : {T : Type 0} (result : Result T LineStop) (state : RunningStage B) (setup : Setup) (blanks : Vec B Global) (domain line : List ℕ) (read : Option Command) (command : Command) (banks : List B)
@@ -132,7 +172,7 @@ module _ {B : Type 0} (log : B → Option Log) where
 
   pub founding_left : (setup : Setup) (banks : List B) (fault : WorldFault) (lines : List (List ℕ)) → LeavesFounded log (setup_of setup) fault banks → IsDueAt (SetUp (setup_of setup)) lines
       → LeavesAtStop log banks (SetUp (setup_of setup)) lines (stop_of_world fault)
-  founding_left setup banks (worlds.Device clone) lines left due = left_founding clone due left
+  founding_left setup banks (worlds.Device clone) lines left due = fails_founding due left
   founding_left setup banks worlds.NoMemory lines left due = inl left
 
 -- it is due at a command, and at the end of the lines

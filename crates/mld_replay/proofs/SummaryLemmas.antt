@@ -16,7 +16,7 @@ use Rattle.mld_replay.specs.Filled.{IsFirstFilled, EndsBefore, LogsStay, Refuses
 use Rattle.mld_replay.specs.Looking.{AreEmpty, StopsLooking, StopsBlanking}
 use Rattle.mld_replay.specs.Ran.{Finishes, StopsAtBad, StopsAtLarge, BreaksOff, WritesSome, Saying, FailsSo, fails_before, fails_amid, RunsShort, short_before, short_amid, short_writing, short_of_banks, ReplayEnds, says_of, Agrees, LeavesAlone, CountsReads, CountsWrites, tells}
 use Rattle.input_lines.specs.Untouched.{AreUntouched, HasNotBegun}
-use Rattle.mld_replay.specs.BanksLeft.{AreLeftAmid}
+use Rattle.mld_replay.specs.BanksLeft.{AreLeftAmid, FailsAmid}
 use Rattle.mld_replay.specs.Replaying.{EndsByFault, says_by, IsReplayFault}
 use Rattle.mld_replay.specs.Stages.{StageStands, banks_of_stage}
 use Rattle.mld_replay.specs.declared.stages.Stage.{Stage as RunningStage}
@@ -76,11 +76,12 @@ breaks_as P Q bytes left before now holds ends = record {
 
 -- what is said at an end, whatever the fault is
 module _ {B : Type 0} (log : B → Option Log) (running : RunningStage B) (says : Saying) (kept : (stage : Stage) → StageStands log running stage → says.kept stage)
-    (amid : (stage : Stage) (rest : List (List ℕ)) → AreLeftAmid log (banks_of_stage running) stage rest → says.left stage rest) (none : banks_of_stage running ≡ [] → says.none)
+    (amid : (stage : Stage) (rest : List (List ℕ)) → AreLeftAmid log (banks_of_stage running) stage rest → says.left stage rest)
+    (failing : (clone : ℕ) (stage : Stage) (rest : List (List ℕ)) → FailsAmid log (banks_of_stage running) clone stage rest → says.failed clone stage rest) (none : banks_of_stage running ≡ [] → says.none)
     (bytes : List ℕ) (left before now : Option (List ℕ)) where
-  fails_as : FailsSo (says_by log running) bytes left before now → FailsSo says bytes left before now
-  fails_as (fails_before begun same) = absurd same
-  fails_as (fails_amid whole) = fails_amid (whole_as (AreLeftAmid log (banks_of_stage running)) says.left bytes before now amid whole)
+  fails_as : (clone : ℕ) → FailsSo (says_by log running) clone bytes left before now → FailsSo says clone bytes left before now
+  fails_as clone (fails_before begun same) = absurd same
+  fails_as clone (fails_amid whole) = fails_amid (whole_as (FailsAmid log (banks_of_stage running) clone) (says.failed clone) bytes before now (failing clone) whole)
 
   short_as : RunsShort (says_by log running) bytes left before now → RunsShort says bytes left before now
   short_as (short_before begun same) = absurd same
@@ -96,7 +97,7 @@ module _ {B : Type 0} (log : B → Option Log) (running : RunningStage B) (says 
   ends_as (Some faults.WriteFault) told ends = front_as (StageStands log running) says.kept bytes before now kept ends
   ends_as (Some (faults.BadLine line)) told ends = bad_as (StageStands log running) says.told bytes line before now (told refl) ends
   ends_as (Some faults.NoMemory) told ends = short_as ends
-  ends_as (Some (faults.Device clone)) told ends = fails_as ends
+  ends_as (Some (faults.Device clone)) told ends = fails_as clone ends
   ends_as (Some (faults.TooLarge line)) told ends = large_as (StageStands log running) says.told bytes line before now (told refl) ends
   ends_as (Some (faults.NotEmpty clone)) told ends = ends
 
@@ -126,9 +127,9 @@ some_none : (bytes : List ℕ) (before after : Option (List ℕ)) → after ≡ 
 some_none bytes before after none =
     subst (λ (o : Option (List ℕ)). WritesSome bytes before o) (sym none) (inl (whole_first (λ stage rest. Unit {0}) before bytes tt))
 
-some_failed : (says : Saying) (bytes : List ℕ) (left before now : Option (List ℕ)) → FailsSo says bytes left before now → WritesSome bytes before now
-some_failed says bytes left before now (fails_before begun same) = some_none bytes before now begun.none_written
-some_failed says bytes left before now (fails_amid whole) = inl (whole_any says.left bytes before now whole)
+some_failed : (says : Saying) (clone : ℕ) (bytes : List ℕ) (left before now : Option (List ℕ)) → FailsSo says clone bytes left before now → WritesSome bytes before now
+some_failed says clone bytes left before now (fails_before begun same) = some_none bytes before now begun.none_written
+some_failed says clone bytes left before now (fails_amid whole) = inl (whole_any (says.failed clone) bytes before now whole)
 
 some_short : (says : Saying) (bytes : List ℕ) (left before now : Option (List ℕ)) → RunsShort says bytes left before now → WritesSome bytes before now
 some_short says bytes left before now (short_before begun same) = some_none bytes before now begun.none_written
@@ -143,7 +144,7 @@ some_of_end says (Some faults.ReadFault) bytes left before now ends = some_befor
 some_of_end says (Some faults.WriteFault) bytes left before now ends = inr (front_as says.kept (λ stage. Unit {0}) bytes before now (λ stage holds. tt) ends)
 some_of_end says (Some (faults.BadLine line)) bytes left before now ends = some_bad bytes line ends.text ends.stage before now ends.verdict ends.written
 some_of_end says (Some faults.NoMemory) bytes left before now ends = some_short says bytes left before now ends
-some_of_end says (Some (faults.Device clone)) bytes left before now ends = some_failed says bytes left before now ends
+some_of_end says (Some (faults.Device clone)) bytes left before now ends = some_failed says clone bytes left before now ends
 some_of_end says (Some (faults.TooLarge line)) bytes left before now ends = some_before bytes line ends.text ends.stage before now ends.done ends.written
 some_of_end says (Some (faults.NotEmpty clone)) bytes left before now ends = some_none bytes before now ends.none_written
 
@@ -154,7 +155,8 @@ module _ {B : Type 0} (log : B → Option Log) (fault : Option RunFault) (runnin
       → ReplayEnds (says_of log given ran) ran.fault bytes left before now
   ends_by given bytes left before now (inl whole) ends =
       subst (λ (f : Option RunFault). ReplayEnds (says_of log given ran) f bytes left before now) (sym whole.fault_is)
-      (ends_as log running (says_of log given ran) whole.kept (λ stage rest amid. subst (λ (l : List B). AreLeftAmid log l stage rest) (sym whole.banks_are) amid) (λ none. whole.banks_are ∙ none)
+      (ends_as log running (says_of log given ran) whole.kept (λ stage rest amid. subst (λ (l : List B). AreLeftAmid log l stage rest) (sym whole.banks_are) amid)
+      (λ clone stage rest amid. subst (λ (l : List B). FailsAmid log l clone stage rest) (sym whole.banks_are) amid) (λ none. whole.banks_are ∙ none)
       bytes left before now fault (λ has stage stands. record { told = whole.told has stage stands; kept = whole.kept stage stands }) ends)
   ends_by given bytes left before now (inr short) ends =
       subst (λ (f : Option RunFault). ReplayEnds (says_of log given ran) f bytes left before now) (sym short.fault_is)

@@ -1,5 +1,5 @@
 -- What a crash may leave of the banks of a run that stopped in the middle: in a line, at the end of the lines, or before the first line.
--- `says_of` and the words of `Stops.antt` say it for `run`, `act` and `finish`; `blanks_of` cites `LeaveNoMore`.
+-- `says_of` and the words of `Stops.antt` say it for `run`, `act` and `finish`, with the clone whose device failed; `blanks_of` cites `LeaveNoMore`.
 use Rattle.std.specs.Prelude.{◌≡◌, ◌⊎◌, ℕ, List, [], ◌∷◌, Option, Some, slice_get}
 use Rattle.mld_io.specs.Disk.{Log, Sides, MayLeave, LeavesOnly}
 use Rattle.clone_core.specs.journal_sides.Pairs.{KeepsNone, read_banks}
@@ -13,6 +13,7 @@ use Rattle.schedule_text.specs.schedule_model.Step.{number_of_clone}
 use Rattle.schedule_text.specs.schedule_model.Tasks.{command_done}
 use Rattle.net_world.specs.crash_laws.CarriedSteps.{owner_at, StandsSome}
 use Rattle.net_world.specs.crash_laws.CrashLines.{ImageStands}
+use Rattle.net_world.specs.DeviceUses.{NeedsDevice}
 use Rattle.net_world.specs.FoundingLeft.{LeavesFounding}
 use Rattle.net_world.specs.SettledWorlds.{AllImagesStand}
 
@@ -58,15 +59,20 @@ abbrev pub AllStandInCommand : {B : Type 0} → (B → Option Log) → World →
 AllStandInCommand {B = B} log world command banks = (number : ℕ) (one : B) (l : Log) → slice_get banks number ≡ Some one → log one ≡ Some l
     → LeavesOnly l (StandsInCommand world command number)
 
--- What a crash may leave of the banks, by the stage that the lines done led to, and the lines still to come: all that the lines done made durable,
--- and of the next line, or of the founding that comes before it, a front of its durable steps.
+-- What a crash may leave of the banks where memory ran out and they came back, by the stage that the lines done led to, and the lines still to come: all
+-- that the lines done made durable, and of the next line a front of its durable steps.
 pub data AreLeftAmid {B : Type 0} (log : B → Option Log) (banks : List B) : Stage → List (List ℕ) → Type 0 where
   -- no clone was founded, and founding hadn't begun
   left_blank : {stage : Stage} {rest : List (List ℕ)} → IsUnfounded stage → AllReadNone log banks → AreLeftAmid log banks stage rest
-  -- clones were being founded
-  left_founding : {setup : Setup} {rest : List (List ℕ)} (clone : ℕ) → IsFoundingDue setup rest → LeavesFounding log setup clone banks → AreLeftAmid log banks (SetUp setup) rest
   -- the clones are founded, and nothing of the next line was done
   left_between : {world : World} {rest : List (List ℕ)} → AllImagesStand log world banks → AreLeftAmid log banks (Running world) rest
   -- the next line is a command, of which a part was done; where no clone was founded before it, all were
   left_in_command : {stage : Stage} {line : List ℕ} {rest : List (List ℕ)} (world : World) (command : Command) → IsWorldOf stage world → SpellsCommand world.domain line command
       → AllStandInCommand log world command banks → AreLeftAmid log banks stage (line ∷ rest)
+
+-- And where the device of the clone of this number failed: clones were being founded, in a step of that clone, and so much of that stands; or the next line
+-- is a command of that clone which needs its device, and of which a part was done.
+pub data FailsAmid {B : Type 0} (log : B → Option Log) (banks : List B) (clone : ℕ) : Stage → List (List ℕ) → Type 0 where
+  fails_founding : {setup : Setup} {rest : List (List ℕ)} → IsFoundingDue setup rest → LeavesFounding log setup clone banks → FailsAmid log banks clone (SetUp setup) rest
+  fails_in_command : {stage : Stage} {line : List ℕ} {rest : List (List ℕ)} (world : World) (command : Command) → IsWorldOf stage world → SpellsCommand world.domain line command
+      → clone ≡ number_of_clone command → NeedsDevice world (command_done command) → AllStandInCommand log world command banks → FailsAmid log banks clone stage (line ∷ rest)

@@ -13,7 +13,7 @@ use Rattle.schedule_text.specs.schedule_model.Promises.{KeepsPromises}
 use Rattle.mld_io.specs.Disk.{Log}
 use Rattle.mld_replay.specs.RunSummaries.{TellsOf}
 use Rattle.mld_replay.specs.KeptBanks.{BanksKeep}
-use Rattle.mld_replay.specs.BanksLeft.{AreLeftAmid, LeaveNoMore}
+use Rattle.mld_replay.specs.BanksLeft.{AreLeftAmid, FailsAmid, LeaveNoMore}
 use Rattle.mld_replay.specs.declared.run.Ran.{Ran}
 use Rattle.mld_replay.specs.declared.run.RunFault.{RunFault}
 use Rattle.mld_replay.specs.declared.run.RunFault.TheVariants as faults
@@ -121,17 +121,19 @@ pub record Saying : Type 1 where
   pub told : Stage → Type 0
   -- of that stage, where only its banks tell of it
   pub kept : Stage → Type 0
-  -- of the stage that the lines done led to, and the lines still to come, where it stopped in the middle of the next line
+  -- of the stage that the lines done led to, and the lines still to come, where memory ran out in the middle of the next line
   pub left : Stage → List (List ℕ) → Type 0
+  -- and where the device of the clone of this number failed there
+  pub failed : ℕ → Stage → List (List ℕ) → Type 0
   -- where no line was begun
   pub same : Type 0
   -- where no banks come back
   pub none : Type 0
 
--- a device failed: before the first line, or in the middle of a line or of the end
-pub data FailsSo (says : Saying) (bytes : List ℕ) (left before after : Option (List ℕ)) : Type 0 where
-  fails_before : HasNotBegun (Some bytes) left before after → says.same → FailsSo says bytes left before after
-  fails_amid : WritesWhole says.left bytes before after → FailsSo says bytes left before after
+-- the device of the clone of this number failed: before the first line, or in the middle of a line or of the end, which concerns that clone
+pub data FailsSo (says : Saying) (clone : ℕ) (bytes : List ℕ) (left before after : Option (List ℕ)) : Type 0 where
+  fails_before : HasNotBegun (Some bytes) left before after → says.same → FailsSo says clone bytes left before after
+  fails_amid : WritesWhole (says.failed clone) bytes before after → FailsSo says clone bytes left before after
 
 -- memory ran out: so too, or while a reply was written; or no banks come back
 pub data RunsShort (says : Saying) (bytes : List ℕ) (left before after : Option (List ℕ)) : Type 0 where
@@ -148,7 +150,7 @@ ReplayEnds says (Some faults.ReadFault) bytes left before after = BreaksOff says
 ReplayEnds says (Some faults.WriteFault) bytes left before after = WritesFront says.kept bytes before after
 ReplayEnds says (Some (faults.BadLine line)) bytes left before after = StopsAtBad says.told bytes line before after
 ReplayEnds says (Some faults.NoMemory) bytes left before after = RunsShort says bytes left before after
-ReplayEnds says (Some (faults.Device clone)) bytes left before after = FailsSo says bytes left before after
+ReplayEnds says (Some (faults.Device clone)) bytes left before after = FailsSo says clone bytes left before after
 ReplayEnds says (Some (faults.TooLarge line)) bytes left before after = StopsAtLarge says.told bytes line before after
 ReplayEnds says (Some (faults.NotEmpty clone)) bytes left before after = HasNotBegun (Some bytes) left before after
 
@@ -209,6 +211,7 @@ says_of log banks ran = record {
   told = EndsAs log ran;
   kept = BanksKeep log ran.banks.items;
   left = AreLeftAmid log ran.banks.items;
+  failed = FailsAmid log ran.banks.items;
   same = LeaveNoMore log banks ran.banks.items;
   none = ran.banks.items ≡ [];
 }

@@ -9,7 +9,7 @@ use Rattle.input_lines.specs.declared.faults.InputFault.TheVariants as inputs
 use Rattle.schedule_text.specs.schedule_model.Runs.{Stage}
 use Rattle.mld_replay.specs.KeptBanks.{BanksKeep}
 use Rattle.mld_replay.specs.Ran.{Saying, tells}
-use Rattle.mld_replay.specs.BanksLeft.{AreLeftAmid}
+use Rattle.mld_replay.specs.BanksLeft.{AreLeftAmid, FailsAmid}
 use Rattle.mld_replay.specs.RunSummaries.{TellsOf}
 use Rattle.mld_replay.specs.Stages.{StageStands, banks_of_stage}
 use Rattle.mld_replay.specs.declared.stages.Stage.{Stage as RunningStage}
@@ -51,6 +51,7 @@ says_by log running = record {
   told = StageStands log running;
   kept = StageStands log running;
   left = AreLeftAmid log (banks_of_stage running);
+  failed = FailsAmid log (banks_of_stage running);
   same = ⊥;
   none = banks_of_stage running ≡ [];
 }

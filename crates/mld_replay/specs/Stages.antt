@@ -10,8 +10,10 @@ use Rattle.schedule_text.specs.schedule_model.Schedule.{IsSetup, SetsProperty, S
 use Rattle.schedule_text.specs.ReadLines.{setup_of, SetupIs}
 use Rattle.schedule_text.specs.declared.setups.SetupLine.TheVariants as lines
 use Rattle.net_world.specs.SettledWorlds.{AllImagesStand, AreBlank}
+use Rattle.net_world.specs.DeviceUses.{NeedsDevice}
 use Rattle.net_world.specs.LeftBehind.{LeavesBanks}
 use Rattle.schedule_text.specs.schedule_model.Step.{number_of_clone}
+use Rattle.schedule_text.specs.schedule_model.Tasks.{command_done}
 use Rattle.net_world.specs.world_commands.WorldBanks.{BankedWorld, StandsOnBanks, OthersStay, banks_of}
 use Rattle.mld_replay.specs.declared.stages.Stage.{Stage as RunningStage}
 use Rattle.mld_replay.specs.declared.stages.Stage.TheVariants as stages
@@ -41,10 +43,12 @@ steps_of_stage (stages.Running running) = running.steps
 steps_of_stage (stages.Over banks) = 0
 
 -- a command that was refused: of the banks of its clone a crash leaves what it might have left before, or a front of the command's durable steps,
--- and those of the others are as they were
-pub record LeavesRefusedCommand {B : Type 0} (log : B → Option Log) (old : BankedWorld B) (command : Command) (new : List B) : Type 0 where
+-- and those of the others are as they were; a device that failed is that of its clone, and the command needs it
+pub record LeavesRefusedCommand {B : Type 0} (log : B → Option Log) (old : BankedWorld B) (command : Command) (new : List B) (stop : LineStop) : Type 0 where
   pub left : LeavesBanks log old command new
   pub others : OthersStay (number_of_clone command) (banks_of old) new
+  pub names : (clone : ℕ) → stop ≡ stops.Device clone → clone ≡ number_of_clone command
+  pub needs : (clone : ℕ) → stop ≡ stops.Device clone → (world : World) → StandsOnBanks log old world → IsSound world → NeedsDevice world (command_done command)
 
 -- the banks, by number
 abbrev pub banks_of_stage : {B : Type 0} → RunningStage B → List B

@@ -13,7 +13,7 @@ use Rattle.mld_replay.specs.declared.stops.LineStop.TheVariants as stops
 use Rattle.mld_replay.specs.declared.run.RunFault.{RunFault}
 use Rattle.mld_replay.specs.declared.run.RunFault.TheVariants as faults
 use Rattle.mld_replay.specs.BankFaults.{ComeBackWell, HaveFailed, AreLeft}
-use Rattle.mld_replay.specs.BanksLeft.{AreLeftAmid}
+use Rattle.mld_replay.specs.BanksLeft.{AreLeftAmid, FailsAmid}
 use Rattle.mld_replay.specs.Stages.{StageStands}
 use Rattle.mld_replay.specs.declared.stages.Stage.{Stage as RunningStage}
 
@@ -37,7 +37,7 @@ fault_at_line stops.NoMemory number = faults.NoMemory
 -- leaves them as they were
 abbrev pub LeavesAtStop : {B : Type 0} → (B → Option Log) → List B → Stage → List (List ℕ) → LineStop → Type 0
 LeavesAtStop log banks stage lines stops.BadLine = Unit {0}
-LeavesAtStop log banks stage lines (stops.Device clone) = AreLeftAmid log banks stage lines
+LeavesAtStop log banks stage lines (stops.Device clone) = FailsAmid log banks clone stage lines
 LeavesAtStop log banks stage lines stops.NoMemory = (banks ≡ []) ⊎ AreLeftAmid log banks stage lines
 
 -- so it is for each stage that the state stood for, where these lines were still to come
@@ -50,7 +50,7 @@ StopLeavesAtLine log old banks line stop = (rest : List (List ℕ)) → StopLeav
 
 -- and by the fault by which the run ends
 abbrev pub LeavesAtFault : {B : Type 0} → (B → Option Log) → List B → Stage → List (List ℕ) → RunFault → Type 0
-LeavesAtFault log banks stage lines (faults.Device clone) = AreLeftAmid log banks stage lines
+LeavesAtFault log banks stage lines (faults.Device clone) = FailsAmid log banks clone stage lines
 LeavesAtFault log banks stage lines faults.NoMemory = (banks ≡ []) ⊎ AreLeftAmid log banks stage lines
 LeavesAtFault log banks stage lines fault = Unit {0}
 

@@ -99,9 +99,10 @@ pub fn run<R: Threads + Sync, S: Source, K: Sink, B: CrashBanks>(
     // 3: the line whose reply could not be written was done, and the text is that of the lines before it and a front of that reply. At 0,
     // 2, 4 and 7 the world that the lines done lead to is told of, and at these and 3 the banks keep it.
     //
-    // 6: the text is that of the lines before the one under way. Whatever a crash leaves of the banks then has all that these lines made
-    // durable, and of the line under way, or of founding, a front of the durable steps; where no line was begun, it is what it might have left
-    // before the run. 5: so it is too, or as at 3, or no banks come back.
+    // 6: the text is that of the lines before the one under way, which is a command of the clone that is told and needs its device; or clones
+    // were being founded, and it was in a step of that clone. Whatever a crash leaves of the banks then has all that these lines made durable,
+    // and of the line under way, or of founding, a front of the durable steps; where no line was begun, it is what it might have left before
+    // the run. 5: the banks are so too, or as at 3, or none come back.
     ensures ends { IsReplay (texts_of words.now.items) → WhereTold (S.left source.old) (λ bytes.
         ReplayEnds (says_of B.log banks.items result) result.fault bytes
         (S.left source.new) (K.held sink.old) (K.held sink.new)) }

@@ -309,7 +309,7 @@ fn step<R: Threads + Sync, B: CrashBanks>(
     ensures well { OnOk result (ComeBackWell B.meter (banks_of world.old) (banks_of world.new)) }
     ensures back { IfErr result (StopBringsBack B.meter (banks_of world.old) (banks_of world.new)) }
     ensures settled { OnOk result (SettlesWorld B.log world.old command.now world.new) }
-    ensures left { OnErr result (LeavesRefusedCommand B.log world.old command.now (banks_of world.new)) }
+    ensures left { IfErr result (LeavesRefusedCommand B.log world.old command.now (banks_of world.new)) }
     ensures other { IfErr result IsWorldStop }
 {
     world.step(rt, alloc, command, reply)?;

@@ -11,7 +11,7 @@ returns-in-Running-clause-bad g c = λ is.
     running_stage g.B.Banks.log (λ stage. IsBad stage c.args.line.now) c.args.stage.now c.in-Running.world c.in-Running.is (λ model stands sound. c.command.ensures.bad is model stands)
 
 pub returns-in-Waiting-clause-left : goal.returns-in-Waiting-clause-left
-returns-in-Waiting-clause-left g c = stops_kept g.B.Banks.log c.set_up.result c.args.stage.now c.set_up.new.stage c.args.line.now c.set_up.ensures.kept
+returns-in-Waiting-clause-left g c = stops_kept g.B.Banks.log c.set_up.result c.args.stage.now c.set_up.new.stage c.args.line.now c.set_up.ensures.device c.set_up.ensures.kept
 
 pub returns-in-Running-clause-left : goal.returns-in-Running-clause-left
 returns-in-Running-clause-left g c =

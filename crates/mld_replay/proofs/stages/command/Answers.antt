@@ -4,7 +4,7 @@ use Rattle.mld_replay.proofs.StageLemmas.{commanded_all, spells_read, nothing_sa
 use Rattle.net_world.specs.world_commands.WorldBanks.{banks_of}
 use Rattle.std.proofs.Common.{refl}
 use Rattle.std.proofs.lemmas.Result.{err_from_is_err_and}
-use Rattle.mld_replay.proofs.StoppedLemmas.{stops_still, commanded_left}
+use Rattle.mld_replay.proofs.StoppedLemmas.{unread_unfailed, stops_still, commanded_left}
 use Rattle.mld_replay.proofs.stages.command.Goals as goal
 
 pub returns-in-None-clause-ok : goal.returns-in-None-clause-ok
@@ -24,4 +24,4 @@ returns-in-Some-clause-left g c =
 pub returns-in_err-read_command-clause-left : goal.returns-in_err-read_command-clause-left
 returns-in_err-read_command-clause-left g c =
     let p = err_from_is_err_and c.from_residual.result c.from_residual.ensures.1 in
-    rw (p.1, p.2) (λ rest. stops_still g.B.Banks.log (stages.Running c.args.world.now) (banks_of c.args.world.now) _ _ refl)
+    rw (p.1, p.2) (λ rest. stops_still g.B.Banks.log (stages.Running c.args.world.now) (banks_of c.args.world.now) _ _ (unread_unfailed c.in_err-read_command.field-0.0) refl)

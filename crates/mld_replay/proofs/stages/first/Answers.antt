@@ -5,7 +5,7 @@ use Rattle.mld_replay.specs.declared.stages.Stage.TheVariants as stages
 use Rattle.schedule_text.specs.ReadLines.{IsBadCommand}
 use Rattle.mld_replay.proofs.StageLemmas.{bad_here, nothing_said, started_here}
 use Rattle.std.proofs.lemmas.Result.{err_from_is_err_and}
-use Rattle.mld_replay.proofs.StoppedLemmas.{stops_still, stopped_here}
+use Rattle.mld_replay.proofs.StoppedLemmas.{unread_unfailed, stops_still, stopped_here}
 use Rattle.mld_replay.proofs.stages.first.Goals as goal
 
 pub returns-in-None-clause-ok : goal.returns-in-None-clause-ok
@@ -35,4 +35,4 @@ returns-in-Some-clause-left g c =
 pub returns-in_err-read_command-in-SetUp-clause-left : goal.returns-in_err-read_command-in-SetUp-clause-left
 returns-in_err-read_command-in-SetUp-clause-left g c =
     let p = err_from_is_err_and c.from_residual.result c.from_residual.ensures.1 in
-    rw (p.1, p.2) (λ rest. stops_still g.B.Banks.log c.args.stage.now c.in-SetUp.field-1.items (c.args.line.now ∷ rest) _ (sym (ap banks_of_stage c.in-SetUp.is)))
+    rw (p.1, p.2) (λ rest. stops_still g.B.Banks.log c.args.stage.now c.in-SetUp.field-1.items (c.args.line.now ∷ rest) _ (unread_unfailed c.in_err-read_command-in-SetUp.field-0.0) (sym (ap banks_of_stage c.in-SetUp.is)))

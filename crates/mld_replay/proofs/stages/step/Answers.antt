@@ -4,6 +4,7 @@ use Rattle.schedule_text.specs.schedule_model.Step.{number_of_clone}
 use Rattle.net_world.specs.world_commands.WorldBanks.{banks_of}
 use Rattle.net_world.specs.world_commands.Worlds.{Stepped}
 use Rattle.mld_replay.proofs.MeterLemmas.{world_stops}
+use Rattle.mld_replay.proofs.StoppedLemmas.{command_refused}
 use Rattle.mld_replay.proofs.stages.step.Goals as goal
 
 pub returns-clause-ok : goal.returns-clause-ok
@@ -24,4 +25,5 @@ returns-clause-settled g c = c.in_ok-step.ensures.settled
 pub returns-in_err-step-clause-left : goal.returns-in_err-step-clause-left
 returns-in_err-step-clause-left g c =
     let p = err_from_is_err_and c.from_residual.result c.from_residual.ensures.1 in
-    rw p.1 (record { left = c.step.ensures.left; others = c.step.ensures.others })
+    rw (p.1, p.2) (command_refused g.B.Banks.log g.B.Banks.meter c.args.world.now c.args.command.now (banks_of c.step.new.self) c.in_err-step.field-0.0 c.step.ensures.left c.step.ensures.others
+    c.in_err-step.ensures.faults c.in_err-step.ensures.device)
