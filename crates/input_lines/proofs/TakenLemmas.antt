@@ -1,6 +1,6 @@
 -- The lines taken so far, none of them too large.
 use Rattle.std.specs.Prelude.{IsTrue}
-use Rattle.std.proofs.Common.{◌≡◌, ◌↔◌, Bool, true, false, ℕ, zero, suc, ◌+◌, ◌<◌, ◌≤◌, List, [], ◌∷◌, ◌++◌, inl, inr, refl, sym, ◌∙◌, ap, arith, subst, Option, Some, None, Result, Ok, Err, append_assoc}
+use Rattle.std.proofs.Common.{◌≡◌, ◌≢◌, ◌↔◌, Bool, true, false, ℕ, zero, suc, ◌+◌, ◌<◌, ◌≤◌, List, [], ◌∷◌, ◌++◌, inl, inr, refl, sym, ◌∙◌, ap, arith, subst, Option, Some, None, Result, Ok, Err, append_assoc}
 use Rattle.std.proofs.lemmas.Bool.{cases_lt, false≢true}
 use Rattle.mld_io.specs.declared.faults.LineFault.{LineFault}
 use Rattle.mld_io.specs.declared.faults.LineFault.TheVariants as line_faults
@@ -17,7 +17,7 @@ left_after_more : (lines : ℕ) (bytes : List ℕ) → left_after (lines + 1) by
 left_after_more zero bytes = refl
 left_after_more (suc lines) bytes = let e : suc lines + 1 ≡ suc (lines + 1) = omega arith in rw e (left_after_more lines (after_line bytes))
 
-size_of_more : (lines : ℕ) (bytes : List ℕ) → size_of_lines (lines + 1) bytes ≡ size_of_lines lines bytes + line_size (left_after lines bytes)
+pub size_of_more : (lines : ℕ) (bytes : List ℕ) → size_of_lines (lines + 1) bytes ≡ size_of_lines lines bytes + line_size (left_after lines bytes)
 size_of_more zero bytes = omega arith
 size_of_more (suc lines) bytes =
     let e : suc lines + 1 ≡ suc (lines + 1) = omega arith in
@@ -26,11 +26,11 @@ size_of_more (suc lines) bytes =
 
 -- nothing is left behind the last line
 
-left_of_nothing : (lines : ℕ) → left_after lines [] ≡ []
+pub left_of_nothing : (lines : ℕ) → left_after lines [] ≡ []
 left_of_nothing zero = refl
 left_of_nothing (suc lines) = left_of_nothing lines
 
-left_later : (done later : ℕ) (bytes : List ℕ) → left_after done bytes ≡ [] → done ≤ later → left_after later bytes ≡ []
+pub left_later : (done later : ℕ) (bytes : List ℕ) → left_after done bytes ≡ [] → done ≤ later → left_after later bytes ≡ []
 left_later zero later bytes none le = ap (λ (b : List ℕ). left_after later b) none ∙ left_of_nothing later
 left_later (suc done) zero bytes none le = absurd (omega (arith, le))
 left_later (suc done) (suc later) bytes none le = left_later done later (after_line bytes) none (omega (arith, le))
@@ -127,10 +127,12 @@ breaks_limits lines bytes fault taken ended left under is next =
       too_large = λ fits. large.too_large (record { in_line = omega (arith, under.in_line, fits.0); in_all = omega (arith, under.in_all, fits.1) });
     }
 
--- and of one in which reading failed
-pub cut_short : (lines : LinesValue) (bytes : List ℕ) (fault : LineFault) (taken : ℕ) (ended : Bool) (left : Option (List ℕ)) → fault ≡ line_faults.ReadFault → NextLine lines bytes (Err fault) taken ended left
+-- and of one that isn't
+pub cut_short : (lines : LinesValue) (bytes : List ℕ) (fault : LineFault) (taken : ℕ) (ended : Bool) (left : Option (List ℕ)) → fault ≢ line_faults.TooLarge → NextLine lines bytes (Err fault) taken ended left
     → IsCutShort bytes left
-cut_short lines bytes fault taken ended left is next = let P : LineFault → Type 0 = λ f. NextLine lines bytes (Err f) taken ended left in subst P is next
+cut_short lines bytes line_faults.ReadFault taken ended left differs next = next
+cut_short lines bytes line_faults.NoMemory taken ended left differs next = next
+cut_short lines bytes line_faults.TooLarge taken ended left differs next = absurd (differs refl)
 
 -- the line behind those done is too large
 pub large_next : (bytes : List ℕ) (left : Option (List ℕ)) (size done : ℕ) (lines : List (List ℕ)) → (at : IsLeft bytes left size done lines) → BreaksLimits size at.rest → IsTooLargeLine bytes done

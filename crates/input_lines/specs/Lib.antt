@@ -1,4 +1,5 @@
 pub mod TooLarge
 pub mod Taken
+pub mod HowFar
 pub mod InputFaults
 pub mod Untouched

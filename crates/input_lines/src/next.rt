@@ -1,8 +1,8 @@
 //! The next line of an input, under the limits that every program has.
-ghost use Rattle.std.specs.Prelude.{◌≡◌, ℕ, [], false, None, IsTrue, IfOk, OnOk, OnErr, IsErrOf};
-ghost use Rattle.mld_io.specs.Lines.{IsCutShort};
+ghost use Rattle.std.specs.Prelude.{◌≡◌, ℕ, [], false, None, IsTrue, IfOk, IfErr, OnOk, OnErr, IsErrOf};
 ghost use Rattle.input_lines.specs.TooLarge.{IsUnderLimits, BreaksLimits};
 ghost use Rattle.input_lines.specs.Taken.{WhereTold, TakesLine, TellsEnd, Advances};
+ghost use Rattle.input_lines.specs.HowFar.{IsBrokenOff};
 ghost use Rattle.input_lines.specs.InputFaults.{HasReadCause};
 
 use crate::faults::InputFault;
@@ -27,11 +27,12 @@ pub fn next_line<S: Source>(
         → WhereTold (S.left source.old) (λ bytes. IfOk result (λ line. line ≡ None → bytes ≡ [])) }
     ensures ended { WhereTold (S.left source.old) (λ bytes. IfOk result (TellsEnd lines.new.ended bytes)) }
     ensures failed { OnErr result (lines.old.ended ≡ false) }
-    // The line that is too large is the one that was due, and of one in which reading failed a part was taken.
+    // The line that is too large is the one that was due. Of one that could not be given a part was taken, and of one that is too large no
+    // more than an input may still have, and one byte.
     ensures large { (at : ℕ) → IsErrOf result (InputFault.TooLarge at)
         → (at ≡ number) × WhereTold (S.left source.old) (BreaksLimits lines.old.taken) }
-    ensures broken_off { IsErrOf result InputFault.ReadFault
-        → WhereTold (S.left source.old) (λ bytes. IsCutShort bytes (S.left source.new)) }
+    ensures broken_off { IfErr result (λ fault. WhereTold (S.left source.old)
+        (λ bytes. IsBrokenOff lines.old.taken fault bytes (S.left source.new))) }
     ensures good { OnOk result (IsTrue lines.new.good) }
     ensures limits { IsUnderLimits lines.new }
     ensures progress { IfOk result (Advances lines.old.taken lines.new.taken) }

@@ -3,12 +3,13 @@ use Rattle.std.proofs.Common.{◌≡◌, ◌∙◌, ap, subst, refl, arith, ℕ,
 use Rattle.mld_io.specs.Faults.{Rose}
 use Rattle.schedule_generator.specs.Generated.{generated}
 use Rattle.mld_replay.specs.BankFaults.{HadRealFault, ReturnsBanks}
-use Rattle.mld_replay.specs.Completeness.{Telling, RunValue, RunClauses, NothingFailed, ReadsGoodLines, completes, lacks_memory, CompletesReplay, CompletesSeed, ReplaysComplete, SeedsComplete, RunsCompletely}
+use Rattle.mld_replay.specs.Completeness.{Telling, RunValue, RunClauses, NothingFailed, ReadsGoodLines, completes, lacks_memory, CompletesReplay, CompletesSeed, ReplaysComplete, SeedsComplete, ReplaysReadFew, RunsCompletely}
 use Rattle.mld_replay.specs.GeneratedRuns.{EndsGenerated}
 use Rattle.mld_replay.specs.Ran.{replay_status, ReplayEnds, says_of, CountsFaults}
 use Rattle.mld_replay.specs.ReplayWords.{IsGenerate}
 use Rattle.mld_replay.specs.declared.run.RunFault.{RunFault}
 use Rattle.mld_replay.specs.declared.run.RunFault.TheVariants as faults
+use Rattle.mld_replay.proofs.SummaryLemmas.{some_of_end, within_some}
 
 module _ {S K B : Type 0} (of : Telling S K B) (run : RunValue S K B) (clauses : RunClauses of run) (quiet : NothingFailed of run) where
   -- the counts, said of a fault that is known
@@ -46,7 +47,7 @@ module _ {S K B : Type 0} (of : Telling S K B) (run : RunValue S K B) (clauses :
         (clauses.ends good.words bytes good.told)
 
     not_large : (line : ℕ) → run.ran.fault ≡ Some (faults.TooLarge line) → ⊥
-    not_large line is = let ends = replay_at (Some (faults.TooLarge line)) is in good.none_large (length ends.done.front) (ends.large (length ends.done.front) ends.done.counted)
+    not_large line is = let ends = replay_at (Some (faults.TooLarge line)) is in good.none_large (length ends.done.front) (ends.meets (length ends.done.front) ends.done.counted).large
 
     replay_ends : (fault : Option RunFault) → run.ran.fault ≡ fault → CompletesReplay of run bytes
     replay_ends None is = completes (status_at None is) is (replay_at None is)
@@ -85,9 +86,15 @@ replays_complete S K B of run bytes clauses quiet good = replay_ends of run clau
 pub seeds_complete : (S K B : Type 0) → SeedsComplete S K B
 seeds_complete S K B of run seed count clauses quiet words = seed_ends of run clauses quiet seed count words run.ran.fault refl
 
+pub replays_read_few : (S K B : Type 0) → ReplaysReadFew S K B
+replays_read_few S K B of run clauses words bytes told =
+    within_some bytes (of.left run.source_now) (of.held run.sink) (of.held run.sink_now)
+    (some_of_end (says_of of.log run.banks.items run.ran) run.ran.fault bytes (of.left run.source_now) (of.held run.sink) (of.held run.sink_now) (clauses.ends words bytes told))
+
 pub all_of_clauses : {S K B : Type 0} (of : Telling S K B) (run : RunValue S K B) → RunClauses of run → RunsCompletely of run
 all_of_clauses {S = S} {K = K} {B = B} of run clauses = record {
   clauses = clauses;
   replay = λ bytes quiet good. replays_complete S K B of run bytes clauses quiet good;
   seed = λ seed count quiet words. seeds_complete S K B of run seed count clauses quiet words;
+  few = λ words. replays_read_few S K B of run clauses words;
 }

@@ -122,7 +122,7 @@ quiet_end log old ran given never left before after (Some (faults.BadLine line))
 quiet_end log old ran given never left before after (Some faults.NoMemory) within is ends due same = as_replay (record { none_written = same; left = left; ends = ends })
 quiet_end log old ran given never left before after (Some (faults.Device clone)) within is ends due same = record { none_written = same; left = left; ends = ends }
 quiet_end log old ran given never left before after (Some (faults.TooLarge line)) within is ends due same =
-    absurd (never.large (length ends.done.front) (ends.large (length ends.done.front) ends.done.counted))
+    absurd (never.large (length ends.done.front) (ends.meets (length ends.done.front) ends.done.counted).large)
 quiet_end log old ran given never left before after (Some (faults.NotEmpty clone)) within is ends due same = same
 
 -- what may be said of a fault of counting

@@ -1,5 +1,5 @@
 -- A replay from line to line, and how it ends.
-use Rattle.std.proofs.Common.{◌≡◌, ◌≢◌, ℕ, ◌+◌, ◌≤◌, ◌<◌, List, [], ◌∷◌, ◌++◌, ◌↔◌, refl, sym, ◌∙◌, ap, arith, subst, length, Option, None, Some, append_assoc, append-nil, length-append, get_or, map, take, drop, Bool, Err, Result, Ok, inl, inr}
+use Rattle.std.proofs.Common.{◌≡◌, ◌≢◌, ◌⊎◌, ℕ, ◌+◌, ◌≤◌, ◌<◌, false, List, [], ◌∷◌, ◌++◌, ◌↔◌, refl, sym, ◌∙◌, ap, arith, subst, length, Option, None, Some, append_assoc, append-nil, length-append, get_or, map, take, drop, Bool, Err, Result, Ok, inl, inr}
 use Rattle.std.specs.Prelude.{IsTrue, nat_eq, OnOk, IfErr}
 use Rattle.std.specs.Result.{result_err}
 use Rattle.mld_io.specs.Faults.{Rose, HasWriteCause}
@@ -10,9 +10,9 @@ use Rattle.std.specs.Cmp.Lexicographic.{pointwise}
 use Rattle.tree_clock.specs.DotLaws.{path_eq-Decides}
 use Rattle.std.specs.Io.KnownBytes.{Appends}
 use Rattle.mld_io.specs.Disk.{Log}
-use Rattle.mld_io.specs.Lines.{lines_of, after_line, IsCutShort}
+use Rattle.mld_io.specs.Lines.{lines_of, after_line}
 use Rattle.mld_io.proofs.LinesLaws.{first_of_lines_lem}
-use Rattle.schedule_text.specs.schedule_model.Runs.{Stage, Waiting, Acts, Runs, bad_line, no_domain, IsBad, RunsBefore, Verdict}
+use Rattle.schedule_text.specs.schedule_model.Runs.{Stage, Waiting, Acts, Runs, bad_line, no_domain, IsBad, Verdict}
 use Rattle.mld_replay.specs.Ran.{Saying, Finishes, StopsAtBad, StopsAtLarge, BreaksOff, WritesFront, WritesWhole, fails_amid, short_amid, short_writing, short_of_banks, ReplayEnds, CountsReads, CountsWrites}
 use Rattle.mld_replay.specs.BanksLeft.{AreLeftAmid, FailsAmid}
 use Rattle.mld_replay.specs.Replaying.{says_by, run_fault_of_input, run_fault_of_write, IsReplayFault, IsLineFault}
@@ -26,12 +26,14 @@ use Rattle.mld_replay.specs.declared.stops.LineStop.{LineStop}
 use Rattle.mld_replay.specs.declared.stops.LineStop.TheVariants as stops
 use Rattle.mld_replay.specs.Stops.{fault_at_line, FaultLeaves}
 use Rattle.mld_replay.specs.ReplayUnderWay.{IsReplayUnderWay}
-use Rattle.input_lines.specs.TooLarge.{BreaksLimits, IsTooLargeLine}
-use Rattle.input_lines.specs.Taken.{TakesLine, IsLeft, ReadsLines}
+use Rattle.input_lines.specs.TooLarge.{BreaksLimits}
+use Rattle.input_lines.specs.Taken.{TakesLine, IsLeft, KnowsEnd}
+use Rattle.input_lines.specs.HowFar.{IsBrokenOff, ReadsJust, ReadsInto, ReadsToNext, MeetsTooLarge}
 use Rattle.input_lines.specs.InputFaults.{HasReadCause}
 use Rattle.input_lines.specs.declared.faults.InputFault.{InputFault}
 use Rattle.input_lines.specs.declared.faults.InputFault.TheVariants as inputs
-use Rattle.input_lines.proofs.TakenLemmas.{left_first, taken_left, taken_fit, all_fit, large_next, takes_some}
+use Rattle.input_lines.proofs.TakenLemmas.{left_first, taken_left, all_fit, large_next, takes_some}
+use Rattle.input_lines.proofs.HowFarLemmas.{just_done, just_all, few_behind, into_next}
 
 -- a run goes on by one line
 runs_more : (stage middle next : Stage) (lines : List (List ℕ)) (text line more : List ℕ) → Runs stage lines text middle → Acts middle line more next
@@ -109,15 +111,26 @@ under_way_more log given left rest before now after size grown running next done
 
 -- ---- between two lines the whole text is written
 
-pub whole_first : (P : Stage → List (List ℕ) → Type 0) (before : Option (List ℕ)) (bytes : List ℕ) → P Waiting (lines_of bytes) → WritesWhole P bytes before before
-whole_first P before bytes holds = record { lines = []; rest = lines_of bytes; whole = refl; text = []; stage = Waiting; runs = (refl, refl); written = appends_nothing before; holds = holds }
+pub whole_first : (P : Stage → List (List ℕ) → Type 0) (Read : ℕ → Type 0) (before : Option (List ℕ)) (bytes : List ℕ) → P Waiting (lines_of bytes) → Read 0 → WritesWhole P Read bytes before before
+whole_first P Read before bytes holds read =
+    record { lines = []; rest = lines_of bytes; whole = refl; text = []; stage = Waiting; runs = (refl, refl); read = read; written = appends_nothing before; holds = holds }
 
-pub whole_of_way : {B : Type 0} (log : B → Option Log) (P : Stage → List (List ℕ) → Type 0) (given left before now : Option (List ℕ)) (size : ℕ) (running : RunningStage B) (done : ℕ)
+pub whole_of_way : {B : Type 0} (log : B → Option Log) (P : Stage → List (List ℕ) → Type 0) (Read : ℕ → Type 0) (given left before now : Option (List ℕ)) (size : ℕ) (running : RunningStage B) (done : ℕ)
     → (way : IsReplayUnderWay log given left before now size running done) → (bytes : List ℕ) → given ≡ Some bytes
-    → ((rest : List ℕ) → left ≡ Some rest → P way.stage (lines_of rest)) → WritesWhole P bytes before now
-whole_of_way log P given left before now size running done way bytes is holds =
+    → ((rest : List ℕ) → left ≡ Some rest → P way.stage (lines_of rest)) → Read done → WritesWhole P Read bytes before now
+whole_of_way log P Read given left before now size running done way bytes is holds read =
     let at : IsLeft bytes left size done way.lines = way.left_of bytes is in
-    record { lines = way.lines; rest = lines_of at.rest; whole = at.whole; text = way.text; stage = way.stage; runs = way.runs; written = way.written; holds = holds at.rest at.is }
+    record {
+      lines = way.lines;
+      rest = lines_of at.rest;
+      whole = at.whole;
+      text = way.text;
+      stage = way.stage;
+      runs = way.runs;
+      read = subst Read way.counted read;
+      written = way.written;
+      holds = holds at.rest at.is;
+    }
 
 -- the lines still to come, where the next line was taken
 pub line_there : {B : Type 0} (log : B → Option Log) (given left rest before now : Option (List ℕ)) (size grown : ℕ) (running : RunningStage B) (done : ℕ) (line : List ℕ)
@@ -138,28 +151,41 @@ none_there log given left rest before now size running done way none bytes is =
     let at : IsLeft bytes left size done way.lines = way.left_of bytes is in
     at.whole ∙ ap (λ b. way.lines ++ lines_of b) (none bytes is at.rest at.is).0
 
-pub whole_with : {B : Type 0} (log : B → Option Log) (P : Stage → List (List ℕ) → Type 0) (given left before now : Option (List ℕ)) (size : ℕ) (running : RunningStage B) (done : ℕ)
-    → (way : IsReplayUnderWay log given left before now size running done) → (bytes : List ℕ) (rest : List (List ℕ)) → lines_of bytes ≡ way.lines ++ rest → P way.stage rest → WritesWhole P bytes before now
-whole_with log P given left before now size running done way bytes rest whole holds =
-    record { lines = way.lines; rest = rest; whole = whole; text = way.text; stage = way.stage; runs = way.runs; written = way.written; holds = holds }
+pub whole_with : {B : Type 0} (log : B → Option Log) (P : Stage → List (List ℕ) → Type 0) (Read : ℕ → Type 0) (given left before now : Option (List ℕ)) (size : ℕ) (running : RunningStage B) (done : ℕ)
+    → (way : IsReplayUnderWay log given left before now size running done) → (bytes : List ℕ) (rest : List (List ℕ)) → lines_of bytes ≡ way.lines ++ rest → P way.stage rest → Read done
+    → WritesWhole P Read bytes before now
+whole_with log P Read given left before now size running done way bytes rest whole holds read =
+    record { lines = way.lines; rest = rest; whole = whole; text = way.text; stage = way.stage; runs = way.runs; read = subst Read way.counted read; written = way.written; holds = holds }
 
--- it says the same of a weaker property
-pub whole_as : (P Q : Stage → List (List ℕ) → Type 0) (bytes : List ℕ) (before now : Option (List ℕ)) → ((stage : Stage) (rest : List (List ℕ)) → P stage rest → Q stage rest)
-    → WritesWhole P bytes before now → WritesWhole Q bytes before now
-whole_as P Q bytes before now holds whole = record {
+-- it says the same of weaker properties
+pub whole_as : (P Q : Stage → List (List ℕ) → Type 0) (Read Other : ℕ → Type 0) (bytes : List ℕ) (before now : Option (List ℕ)) → ((stage : Stage) (rest : List (List ℕ)) → P stage rest → Q stage rest)
+    → ((lines : ℕ) → Read lines → Other lines) → WritesWhole P Read bytes before now → WritesWhole Q Other bytes before now
+whole_as P Q Read Other bytes before now holds read whole = record {
   lines = whole.lines;
   rest = whole.rest;
   whole = whole.whole;
   text = whole.text;
   stage = whole.stage;
   runs = whole.runs;
+  read = read (length whole.lines) whole.read;
   written = whole.written;
   holds = holds whole.stage whole.rest whole.holds;
 }
 
--- whatever holds
-pub whole_any : (P : Stage → List (List ℕ) → Type 0) (bytes : List ℕ) (before now : Option (List ℕ)) → WritesWhole P bytes before now → WritesWhole (λ stage rest. Unit {0}) bytes before now
-whole_any P bytes before now whole = whole_as P (λ stage rest. Unit {0}) bytes before now (λ stage rest holds. tt) whole
+-- one more line was read, and nothing behind it
+pub just_more : {B : Type 0} (log : B → Option Log) (given left rest before now : Option (List ℕ)) (size grown : ℕ) (running : RunningStage B) (done : ℕ) (line : List ℕ)
+    → IsReplayUnderWay log given left before now size running done → ((bytes : List ℕ) → left ≡ Some bytes → TakesLine size bytes rest grown (Some line))
+    → (bytes : List ℕ) → given ≡ Some bytes → ReadsJust bytes rest (done + 1)
+just_more log given left rest before now size grown running done line way takes bytes is =
+    just_done bytes rest grown (done + 1) (way.lines ++ line ∷ []) (taken_left given left size grown done way.lines line rest way.left_of takes bytes is)
+
+-- or there was none
+pub just_none : {B : Type 0} (log : B → Option Log) (given left rest before now : Option (List ℕ)) (size : ℕ) (running : RunningStage B) (done : ℕ)
+    → IsReplayUnderWay log given left before now size running done
+    → ((bytes : List ℕ) → given ≡ Some bytes → (behind : List ℕ) → left ≡ Some behind → (behind ≡ []) × (rest ≡ Some []))
+    → (bytes : List ℕ) → given ≡ Some bytes → ReadsJust bytes rest (done + 1)
+just_none log given left rest before now size running done way none bytes is =
+    let at : IsLeft bytes left size done way.lines = way.left_of bytes is in just_all bytes left rest size done way.lines at (none bytes is at.rest at.is)
 
 -- ---- the reply to a line was cut short
 
@@ -167,7 +193,7 @@ pub front_of_reply : {B : Type 0} (log : B → Option Log) (given left rest befo
     → IsReplayUnderWay log given left before now size running done
     → ((bytes : List ℕ) → left ≡ Some bytes → TakesLine size bytes rest grown (Some line))
     → ((stage : Stage) → StageStands log running stage → ActsWell log stage line text next)
-    → (n : ℕ) → Appends now after (take n text) → (bytes : List ℕ) → given ≡ Some bytes → WritesFront (StageStands log next) bytes before after
+    → (n : ℕ) → Appends now after (take n text) → (bytes : List ℕ) → given ≡ Some bytes → WritesFront (StageStands log next) bytes rest before after
 front_of_reply log given left rest before now after size grown running next done line text way takes acts n writes bytes is =
     let act : ActsWell log way.stage line text next = acts way.stage way.stands in
     let there = line_there log given left rest before now size grown running done line way takes bytes is in
@@ -185,13 +211,14 @@ front_of_reply log given left rest before now after size grown running next done
       front = take n text;
       behind = drop n text;
       of_reply = take-append-drop n text;
+      read = subst (λ (k : ℕ). ReadsJust bytes rest (k + 1)) way.counted (just_more log given left rest before now size grown running done line way takes bytes is);
       written = appends_more before now after way.text (take n text) way.written writes;
       holds = act.stands;
     }
 
 -- a front says the same of a weaker property
-pub front_as : (P Q : Stage → Type 0) (bytes : List ℕ) (before now : Option (List ℕ)) → ((stage : Stage) → P stage → Q stage) → WritesFront P bytes before now → WritesFront Q bytes before now
-front_as P Q bytes before now holds front = record {
+pub front_as : (P Q : Stage → Type 0) (bytes : List ℕ) (left before now : Option (List ℕ)) → ((stage : Stage) → P stage → Q stage) → WritesFront P bytes left before now → WritesFront Q bytes left before now
+front_as P Q bytes left before now holds front = record {
   lines = front.lines;
   line = front.line;
   rest = front.rest;
@@ -205,6 +232,7 @@ front_as P Q bytes before now holds front = record {
   front = front.front;
   behind = front.behind;
   of_reply = front.of_reply;
+  read = front.read;
   written = front.written;
   holds = holds front.next front.holds;
 }
@@ -239,7 +267,7 @@ finishes log given left rest before now size running next done way none ends byt
 -- the source is at its end, and no line was a domain line
 pub ends_waiting : {B : Type 0} (log : B → Option Log) (given left rest before now : Option (List ℕ)) (size : ℕ) (running : RunningStage B) (done : ℕ) → IsReplayUnderWay log given left before now size running done
     → ((bytes : List ℕ) → given ≡ Some bytes → (behind : List ℕ) → left ≡ Some behind → (behind ≡ []) × (rest ≡ Some []))
-    → ((stage : Stage) → StageStands log running stage → stage ≡ Waiting) → (bytes : List ℕ) → given ≡ Some bytes → StopsAtBad (StageStands log running) bytes (done + 1) before now
+    → ((stage : Stage) → StageStands log running stage → stage ≡ Waiting) → (bytes : List ℕ) → given ≡ Some bytes → StopsAtBad (StageStands log running) bytes (done + 1) rest before now
 unfolding Verdict
 ends_waiting log given left rest before now size running done way none waits bytes is =
     let at : IsLeft bytes left size done way.lines = way.left_of bytes is in
@@ -251,96 +279,102 @@ ends_waiting log given left rest before now size running done way none waits byt
         before = record { front = way.lines; rest = lines_of at.rest; whole = at.whole; counted = ap (λ n. n + 1) way.counted; runs = way.runs };
         bad = no_domain (ap lines_of end.0) (waits way.stage way.stands);
       };
-      fits = λ before below. all_fit bytes left size done way.lines at end.0 before;
+      read = just_all bytes left rest size done way.lines at end;
       written = way.written;
       holds = way.stands;
     }
 
--- the lines before a line that was taken
-before_line : {B : Type 0} (log : B → Option Log) (given left rest before now : Option (List ℕ)) (size grown : ℕ) (running : RunningStage B) (done : ℕ) (line : List ℕ) → (way : IsReplayUnderWay log given left before now size running done)
-    → ((bytes : List ℕ) → left ≡ Some bytes → TakesLine size bytes rest grown (Some line)) → (bytes : List ℕ) → given ≡ Some bytes
-    → (b : RunsBefore (lines_of bytes) (done + 1) way.text way.stage) × ((others : List (List ℕ)) × (b.rest ≡ line ∷ others))
-    × ((before : ℕ) → before < done + 1 → ¬ IsTooLargeLine bytes before)
-before_line log given left rest before now size grown running done line way takes bytes is =
-    let at : IsLeft bytes left size done way.lines = way.left_of bytes is in
-    let taken : TakesLine size at.rest rest grown (Some line) = takes at.rest at.is in (
-      record { front = way.lines; rest = lines_of at.rest; whole = at.whole; counted = ap (λ n. n + 1) way.counted; runs = way.runs },
-      (lines_of (after_line at.rest), first_of_lines_lem at.rest taken.0 ∙ ap (λ l. l ∷ lines_of (after_line at.rest)) (sym taken.1)),
-      taken_fit bytes left rest size grown done way.lines line at taken,
-    )
-
 -- a line that was taken is bad
 pub stops_bad : {B : Type 0} (log : B → Option Log) (given left rest before now : Option (List ℕ)) (size grown : ℕ) (running : RunningStage B) (done : ℕ) (line : List ℕ) → IsReplayUnderWay log given left before now size running done
     → ((bytes : List ℕ) → left ≡ Some bytes → TakesLine size bytes rest grown (Some line)) → ((stage : Stage) → StageStands log running stage → IsBad stage line)
-    → (bytes : List ℕ) → given ≡ Some bytes → StopsAtBad (StageStands log running) bytes (done + 1) before now
+    → (bytes : List ℕ) → given ≡ Some bytes → StopsAtBad (StageStands log running) bytes (done + 1) rest before now
 unfolding Verdict
 stops_bad log given left rest before now size grown running done line way takes bad bytes is =
-    let b = before_line log given left rest before now size grown running done line way takes bytes is in
-    record { text = way.text; stage = way.stage; verdict = record { before = b.0; bad = bad_line line b.1 (bad way.stage way.stands) }; fits = b.2; written = way.written; holds = way.stands }
+    let at : IsLeft bytes left size done way.lines = way.left_of bytes is in
+    let taken : TakesLine size at.rest rest grown (Some line) = takes at.rest at.is in
+    record {
+      text = way.text;
+      stage = way.stage;
+      verdict = record {
+        before = record { front = way.lines; rest = lines_of at.rest; whole = at.whole; counted = ap (λ n. n + 1) way.counted; runs = way.runs };
+        bad = bad_line line (lines_of (after_line at.rest), first_of_lines_lem at.rest taken.0 ∙ ap (λ l. l ∷ lines_of (after_line at.rest)) (sym taken.1)) (bad way.stage way.stands);
+      };
+      read = just_more log given left rest before now size grown running done line way takes bytes is;
+      written = way.written;
+      holds = way.stands;
+    }
 
 -- the line of the number is too large
-pub stops_large : {B : Type 0} (log : B → Option Log) (given left before now : Option (List ℕ)) (size : ℕ) (running : RunningStage B) (done number : ℕ) → IsReplayUnderWay log given left before now size running done → number ≡ done + 1
-    → ((bytes : List ℕ) → left ≡ Some bytes → BreaksLimits size bytes) → (bytes : List ℕ) → given ≡ Some bytes → StopsAtLarge (StageStands log running) bytes number before now
-stops_large log given left before now size running done number way counts breaks bytes is =
+pub stops_large : {B : Type 0} (log : B → Option Log) (given left rest before now : Option (List ℕ)) (size : ℕ) (running : RunningStage B) (done number : ℕ) (fault : InputFault) → IsReplayUnderWay log given left before now size running done
+    → number ≡ done + 1 → ((bytes : List ℕ) → left ≡ Some bytes → BreaksLimits size bytes) → ((bytes : List ℕ) → left ≡ Some bytes → IsBrokenOff size fault bytes rest)
+    → (bytes : List ℕ) → given ≡ Some bytes → StopsAtLarge (StageStands log running) bytes number rest before now
+stops_large log given left rest before now size running done number fault way counts breaks broken bytes is =
     let at : IsLeft bytes left size done way.lines = way.left_of bytes is in
+    let meets : MeetsTooLarge bytes rest done = record {
+      fits = at.fits;
+      large = large_next bytes left size done way.lines at (breaks at.rest at.is);
+      few = few_behind bytes left rest size done way.lines fault at (broken at.rest at.is);
+    } in
     record {
       text = way.text;
       stage = way.stage;
       done = record { front = way.lines; rest = lines_of at.rest; whole = at.whole; counted = counts ∙ ap (λ n. n + 1) way.counted; runs = way.runs };
-      fits = λ lines below. at.fits lines (omega (arith, below, counts));
-      large = λ lines is_lines.
-          let P : ℕ → Type 0 = λ k. IsTooLargeLine bytes k in
-          let same : done ≡ lines = omega (arith, counts, is_lines) in
-          subst P same (large_next bytes left size done way.lines at (breaks at.rest at.is));
+      meets = λ lines is_lines. let same : done ≡ lines = omega (arith, counts, is_lines) in subst (λ (k : ℕ). MeetsTooLarge bytes rest k) same meets;
       written = way.written;
       holds = way.stands;
     }
 
 -- reading failed in the line behind those done
 pub breaks_off : {B : Type 0} (log : B → Option Log) (given left rest before now : Option (List ℕ)) (size : ℕ) (running : RunningStage B) (done : ℕ) → IsReplayUnderWay log given left before now size running done
-    → ((bytes : List ℕ) → left ≡ Some bytes → IsCutShort bytes rest) → ((bytes : List ℕ) → given ≡ Some bytes → ReadsLines bytes rest done)
-    → (bytes : List ℕ) → given ≡ Some bytes → BreaksOff (StageStands log running) bytes rest before now
-breaks_off log given left rest before now size running done way cut reads bytes is =
+    → (bytes : List ℕ) → given ≡ Some bytes → ReadsInto bytes rest done → BreaksOff (StageStands log running) bytes rest before now
+breaks_off log given left rest before now size running done way bytes is read =
     let at : IsLeft bytes left size done way.lines = way.left_of bytes is in
-    let P : List ℕ → Type 0 = λ b. IsCutShort b rest in
     record {
       lines = done;
-      reads = reads bytes is;
+      read = read;
       text = way.text;
       stage = way.stage;
       done = record { front = way.lines; rest = lines_of at.rest; whole = at.whole; counted = ap (λ n. n + 1) way.counted; runs = way.runs };
-      fits = at.fits;
-      cut = subst P at.behind (cut at.rest at.is);
       written = way.written;
       holds = way.stands;
     }
 
+-- a part of that line was read
+pub part_read : {B : Type 0} (log : B → Option Log) (given left rest before now : Option (List ℕ)) (size : ℕ) (running : RunningStage B) (done : ℕ) (ended : Bool) (fault : InputFault) → IsReplayUnderWay log given left before now size running done
+    → KnowsEnd ended given left done → ended ≡ false → ((bytes : List ℕ) → left ≡ Some bytes → IsBrokenOff size fault bytes rest)
+    → (bytes : List ℕ) → given ≡ Some bytes → ((line : ℕ) → fault ≢ inputs.TooLarge line) → ReadsInto bytes rest done
+part_read log given left rest before now size running done ended fault way knows not_yet broken bytes is fits =
+    into_next given left rest size done way.lines ended fault knows not_yet fits broken bytes is (way.left_of bytes is)
+
 -- ---- the run ends so
 
 -- where a line could not be read
-pub ends_reading : (says : Saying) (fault : InputFault) (bytes : List ℕ) (left before after : Option (List ℕ))
-    → (fault ≡ inputs.ReadFault → BreaksOff says.told bytes left before after) → ((at : ℕ) → fault ≡ inputs.TooLarge at → StopsAtLarge says.told bytes at before after)
-    → WritesWhole says.left bytes before after → ReplayEnds says (Some (run_fault_of_input fault)) bytes left before after
-ends_reading says inputs.ReadFault bytes left before after breaks large whole = breaks refl
-ends_reading says (inputs.TooLarge at) bytes left before after breaks large whole = large at refl
-ends_reading says inputs.NoMemory bytes left before after breaks large whole = short_amid whole
+pub ends_reading : (says : Saying) (fault : InputFault) (bytes : List ℕ) (left before after : Option (List ℕ)) (done : ℕ)
+    → (((line : ℕ) → fault ≢ inputs.TooLarge line) → ReadsInto bytes left done) → (ReadsInto bytes left done → BreaksOff says.told bytes left before after)
+    → ((at : ℕ) → fault ≡ inputs.TooLarge at → StopsAtLarge says.told bytes at left before after)
+    → (ReadsInto bytes left done → WritesWhole says.left (ReadsToNext bytes left) bytes before after) → ReplayEnds says (Some (run_fault_of_input fault)) bytes left before after
+ends_reading says inputs.ReadFault bytes left before after done read breaks large whole = breaks (read (λ line is. absurd (cc (is))))
+ends_reading says (inputs.TooLarge at) bytes left before after done read breaks large whole = large at refl
+ends_reading says inputs.NoMemory bytes left before after done read breaks large whole = short_amid (whole (read (λ line is. absurd (cc (is)))))
 
 -- where the next line was not done, or the lines not ended: these lines were to come, and this is left of the banks
 pub ends_stopped : {B : Type 0} (log : B → Option Log) (given left before now : Option (List ℕ)) (size : ℕ) (running next : RunningStage B) (done : ℕ)
     → (way : IsReplayUnderWay log given left before now size running done) → (bytes : List ℕ) (lines : List (List ℕ)) (rest : Option (List ℕ)) (fault : RunFault) → lines_of bytes ≡ way.lines ++ lines
-    → IsLineFault fault → ((at : ℕ) → fault ≡ faults.BadLine at → StopsAtBad (StageStands log next) bytes at before now) → FaultLeaves log running (banks_of_stage next) lines fault
-    → ReplayEnds (says_by log next) (Some fault) bytes rest before now
-ends_stopped log given left before now size running next done way bytes lines rest (faults.BadLine at) whole doing bad amid = bad at refl
-ends_stopped log given left before now size running next done way bytes lines rest (faults.Device clone) whole doing bad amid =
-    fails_amid (whole_with log (FailsAmid log (banks_of_stage next) clone) given left before now size running done way bytes lines whole (amid way.stage way.stands))
-ends_stopped log given left before now size running next done way bytes lines rest faults.NoMemory whole doing bad amid = elim (amid way.stage way.stands) [
-  | inl none ↦ short_of_banks none (inl (whole_with log (λ stage behind. Unit {0}) given left before now size running done way bytes lines whole tt))
-  | inr some ↦ short_amid (whole_with log (AreLeftAmid log (banks_of_stage next)) given left before now size running done way bytes lines whole some)
+    → IsLineFault fault → ((at : ℕ) → fault ≡ faults.BadLine at → StopsAtBad (StageStands log next) bytes at rest before now) → FaultLeaves log running (banks_of_stage next) lines fault
+    → ReadsJust bytes rest (done + 1) → ReplayEnds (says_by log next) (Some fault) bytes rest before now
+ends_stopped log given left before now size running next done way bytes lines rest (faults.BadLine at) whole doing bad amid read = bad at refl
+ends_stopped log given left before now size running next done way bytes lines rest (faults.Device clone) whole doing bad amid read =
+    fails_amid (whole_with log (FailsAmid log (banks_of_stage next) clone) (λ n. ReadsJust bytes rest (n + 1)) given left before now size running done way bytes lines whole (amid way.stage way.stands) read)
+ends_stopped log given left before now size running next done way bytes lines rest faults.NoMemory whole doing bad amid read = elim (amid way.stage way.stands) [
+  | inl none ↦
+      short_of_banks none (inl (whole_with log (λ stage behind. Unit {0}) (λ n. ReadsToNext bytes rest n ⊎ MeetsTooLarge bytes rest n) given left before now size running done way bytes lines whole tt
+      (inl (inr read))))
+  | inr some ↦ short_amid (whole_with log (AreLeftAmid log (banks_of_stage next)) (ReadsToNext bytes rest) given left before now size running done way bytes lines whole some (inr read))
 ]
-ends_stopped log given left before now size running next done way bytes lines rest fault whole doing bad amid = absurd doing
+ends_stopped log given left before now size running next done way bytes lines rest fault whole doing bad amid read = absurd doing
 
 -- where its reply could not be written
-pub ends_writing : (says : Saying) (fault : WriteFault) (bytes : List ℕ) (left before after : Option (List ℕ)) → WritesFront says.kept bytes before after
+pub ends_writing : (says : Saying) (fault : WriteFault) (bytes : List ℕ) (left before after : Option (List ℕ)) → WritesFront says.kept bytes left before after
     → ReplayEnds says (Some (run_fault_of_write fault)) bytes left before after
 ends_writing says writes.Failed bytes left before after front = front
 ends_writing says writes.NoMemory bytes left before after front = short_writing front
@@ -349,11 +383,11 @@ ends_writing says writes.NoMemory bytes left before after front = short_writing 
 pub ends_lines : {B : Type 0} (log : B → Option Log) (given left before now : Option (List ℕ)) (size : ℕ) (running next : RunningStage B) (done : ℕ)
     → (way : IsReplayUnderWay log given left before now size running done) → (bytes : List ℕ) (rest : Option (List ℕ)) (result : Result (Unit {0}) RunFault) → lines_of bytes ≡ way.lines ++ []
     → IfErr result IsLineFault → OnOk result (Finishes (StageStands log next) bytes rest before now)
-    → ((at : ℕ) → result ≡ Err (faults.BadLine at) → StopsAtBad (StageStands log next) bytes at before now) → IfErr result (FaultLeaves log running (banks_of_stage next) [])
-    → ReplayEnds (says_by log next) (result_err result) bytes rest before now
-ends_lines log given left before now size running next done way bytes rest (Ok value) whole ending finished bad amid = finished
-ends_lines log given left before now size running next done way bytes rest (Err fault) whole ending finished bad amid =
-    ends_stopped log given left before now size running next done way bytes [] rest fault whole ending (λ at is. bad at (ap (λ (f : RunFault). Err f) is)) amid
+    → ((at : ℕ) → result ≡ Err (faults.BadLine at) → StopsAtBad (StageStands log next) bytes at rest before now) → IfErr result (FaultLeaves log running (banks_of_stage next) [])
+    → ReadsJust bytes rest (done + 1) → ReplayEnds (says_by log next) (result_err result) bytes rest before now
+ends_lines log given left before now size running next done way bytes rest (Ok value) whole ending finished bad amid read = finished
+ends_lines log given left before now size running next done way bytes rest (Err fault) whole ending finished bad amid read =
+    ends_stopped log given left before now size running next done way bytes [] rest fault whole ending (λ at is. bad at (ap (λ (f : RunFault). Err f) is)) amid read
 
 -- ---- the faults of its parts are faults of the replay
 
@@ -440,10 +474,10 @@ writes_same before now fault differs same = same
 pub stops_bad_at : {B : Type 0} (log : B → Option Log) (given left rest before now : Option (List ℕ)) (size grown : ℕ) (running : RunningStage B) (done : ℕ) (taken : Option (List ℕ)) (piece line : List ℕ) (at : ℕ)
     → IsReplayUnderWay log given left before now size running done → taken ≡ Some piece → line ≡ piece → ((bytes : List ℕ) → left ≡ Some bytes → TakesLine size bytes rest grown taken)
     → at ≡ done + 1 → ((stage : Stage) → StageStands log running stage → IsBad stage line) → (next : RunningStage B) → next ≡ running
-    → (bytes : List ℕ) → given ≡ Some bytes → StopsAtBad (StageStands log next) bytes at before now
+    → (bytes : List ℕ) → given ≡ Some bytes → StopsAtBad (StageStands log next) bytes at rest before now
 stops_bad_at {B = B} log given left rest before now size grown running done taken piece line at way is same takes counts bad next kept bytes told =
-    let P : ℕ → Type 0 = λ n. StopsAtBad (StageStands log running) bytes n before now in
-    let Q : RunningStage B → Type 0 = λ w. StopsAtBad (StageStands log w) bytes at before now in
+    let P : ℕ → Type 0 = λ n. StopsAtBad (StageStands log running) bytes n rest before now in
+    let Q : RunningStage B → Type 0 = λ w. StopsAtBad (StageStands log w) bytes at rest before now in
     subst Q (sym kept) (subst P (sym counts) (stops_bad log given left rest before now size grown running done line way (takes_some left rest taken size grown piece line is same takes) bad bytes told))
 
 -- the end of the source while no domain line has come, said of an equal state and number
@@ -451,10 +485,10 @@ stops_bad_at {B = B} log given left rest before now size grown running done take
 pub ends_waiting_at : {B : Type 0} (log : B → Option Log) (given left rest before now : Option (List ℕ)) (size : ℕ) (running : RunningStage B) (done at : ℕ)
     → IsReplayUnderWay log given left before now size running done → ((bytes : List ℕ) → given ≡ Some bytes → (behind : List ℕ) → left ≡ Some behind → (behind ≡ []) × (rest ≡ Some []))
     → at ≡ done + 1 → ((stage : Stage) → StageStands log running stage → stage ≡ Waiting) → (next : RunningStage B) → next ≡ running
-    → (bytes : List ℕ) → given ≡ Some bytes → StopsAtBad (StageStands log next) bytes at before now
+    → (bytes : List ℕ) → given ≡ Some bytes → StopsAtBad (StageStands log next) bytes at rest before now
 ends_waiting_at {B = B} log given left rest before now size running done at way none counts waits next kept bytes told =
-    let P : ℕ → Type 0 = λ n. StopsAtBad (StageStands log running) bytes n before now in
-    let Q : RunningStage B → Type 0 = λ w. StopsAtBad (StageStands log w) bytes at before now in
+    let P : ℕ → Type 0 = λ n. StopsAtBad (StageStands log running) bytes n rest before now in
+    let Q : RunningStage B → Type 0 = λ w. StopsAtBad (StageStands log w) bytes at rest before now in
     subst Q (sym kept) (subst P (sym counts) (ends_waiting log given left rest before now size running done way none waits bytes told))
 
 -- the fault of a bad line came from a stop at a bad line

@@ -3,7 +3,7 @@ use Rattle.std.specs.Prelude.{Result, Ok, Err, IfErr, IfSome, IsTrue}
 use Rattle.std.specs.Result.{result_err}
 use Rattle.std.specs.Io.KnownBytes.{Appends}
 use Rattle.std.proofs.lemmas.Bool.{cases_lt}
-use Rattle.std.proofs.Common.{◌≡◌, ◌≢◌, ◌∙◌, ◌+◌, arith, inl, inr, ap, ℕ, List, [], sym, subst, refl, append-nil, Option, Some, None}
+use Rattle.std.proofs.Common.{◌≡◌, ◌≢◌, ◌⊎◌, ◌∙◌, ◌+◌, arith, inl, inr, ap, ℕ, List, [], length, sym, subst, refl, append-nil, Option, Some, None}
 use Rattle.mld_io.specs.Arm.{Meter}
 use Rattle.mld_io.specs.Disk.{Log}
 use Rattle.mld_io.specs.Lines.{lines_of}
@@ -14,8 +14,10 @@ use Rattle.schedule_text.proofs.of_schedule_model.RunsLaws.{one_kind_of_verdict}
 use Rattle.mld_replay.specs.BankFaults.{ComeBackWell, none_left, BringsBack}
 use Rattle.mld_replay.specs.Filled.{IsFirstFilled, EndsBefore, LogsStay, RefusesFilledBanks}
 use Rattle.mld_replay.specs.Looking.{AreEmpty, StopsLooking, StopsBlanking}
-use Rattle.mld_replay.specs.Ran.{Finishes, StopsAtBad, StopsAtLarge, BreaksOff, WritesSome, Saying, FailsSo, fails_before, fails_amid, RunsShort, short_before, short_amid, short_writing, short_of_banks, ReplayEnds, says_of, Agrees, LeavesAlone, CountsReads, CountsWrites, tells}
+use Rattle.mld_replay.specs.Ran.{Finishes, StopsAtBad, StopsAtLarge, BreaksOff, WritesFront, WritesWhole, WritesSome, Saying, FailsSo, fails_before, fails_amid, RunsShort, short_before, short_amid, short_writing, short_of_banks, ReplayEnds, says_of, Agrees, LeavesAlone, CountsReads, CountsWrites, tells}
+use Rattle.input_lines.specs.HowFar.{ReadsJust, ReadsInto, ReadsToNext, MeetsTooLarge, IsReadWithin}
 use Rattle.input_lines.specs.Untouched.{AreUntouched, HasNotBegun}
+use Rattle.input_lines.proofs.HowFarLemmas.{just_whole, into_first, within_just, within_few}
 use Rattle.mld_replay.specs.BanksLeft.{AreLeftAmid, FailsAmid}
 use Rattle.mld_replay.specs.Replaying.{EndsByFault, says_by, IsReplayFault}
 use Rattle.mld_replay.specs.Stages.{StageStands, banks_of_stage}
@@ -24,7 +26,7 @@ use Rattle.mld_replay.specs.declared.run.Ran.{Ran}
 use Rattle.mld_replay.specs.declared.run.RunFault.{RunFault}
 use Rattle.mld_replay.specs.declared.run.RunFault.TheVariants as faults
 use Rattle.mld_replay.proofs.MeterLemmas.{back_later}
-use Rattle.mld_replay.proofs.RunLemmas.{front_as, whole_as, whole_any, whole_first}
+use Rattle.mld_replay.proofs.RunLemmas.{front_as, whole_as, whole_first}
 
 -- ---- an end of a run says the same of what is told and kept as of the state
 
@@ -40,23 +42,22 @@ finishes_as P Q bytes left before now holds ends = record {
   holds = holds (Running ends.world) ends.holds;
 }
 
-bad_as : (P Q : Stage → Type 0) (bytes : List ℕ) (line : ℕ) (before now : Option (List ℕ)) → ((stage : Stage) → P stage → Q stage) → StopsAtBad P bytes line before now → StopsAtBad Q bytes line before now
-bad_as P Q bytes line before now holds ends = record {
+bad_as : (P Q : Stage → Type 0) (bytes : List ℕ) (line : ℕ) (left before now : Option (List ℕ)) → ((stage : Stage) → P stage → Q stage) → StopsAtBad P bytes line left before now → StopsAtBad Q bytes line left before now
+bad_as P Q bytes line left before now holds ends = record {
   text = ends.text;
   stage = ends.stage;
   verdict = ends.verdict;
-  fits = ends.fits;
+  read = ends.read;
   written = ends.written;
   holds = holds ends.stage ends.holds;
 }
 
-large_as : (P Q : Stage → Type 0) (bytes : List ℕ) (line : ℕ) (before now : Option (List ℕ)) → ((stage : Stage) → P stage → Q stage) → StopsAtLarge P bytes line before now → StopsAtLarge Q bytes line before now
-large_as P Q bytes line before now holds ends = record {
+large_as : (P Q : Stage → Type 0) (bytes : List ℕ) (line : ℕ) (left before now : Option (List ℕ)) → ((stage : Stage) → P stage → Q stage) → StopsAtLarge P bytes line left before now → StopsAtLarge Q bytes line left before now
+large_as P Q bytes line left before now holds ends = record {
   text = ends.text;
   stage = ends.stage;
   done = ends.done;
-  fits = ends.fits;
-  large = ends.large;
+  meets = ends.meets;
   written = ends.written;
   holds = holds ends.stage ends.holds;
 }
@@ -64,12 +65,10 @@ large_as P Q bytes line before now holds ends = record {
 breaks_as : (P Q : Stage → Type 0) (bytes : List ℕ) (left before now : Option (List ℕ)) → ((stage : Stage) → P stage → Q stage) → BreaksOff P bytes left before now → BreaksOff Q bytes left before now
 breaks_as P Q bytes left before now holds ends = record {
   lines = ends.lines;
-  reads = ends.reads;
+  read = ends.read;
   text = ends.text;
   stage = ends.stage;
   done = ends.done;
-  fits = ends.fits;
-  cut = ends.cut;
   written = ends.written;
   holds = holds ends.stage ends.holds;
 }
@@ -81,12 +80,15 @@ module _ {B : Type 0} (log : B → Option Log) (running : RunningStage B) (says 
     (bytes : List ℕ) (left before now : Option (List ℕ)) where
   fails_as : (clone : ℕ) → FailsSo (says_by log running) clone bytes left before now → FailsSo says clone bytes left before now
   fails_as clone (fails_before begun same) = absurd same
-  fails_as clone (fails_amid whole) = fails_amid (whole_as (FailsAmid log (banks_of_stage running) clone) (says.failed clone) bytes before now (failing clone) whole)
+  fails_as clone (fails_amid whole) =
+      fails_amid (whole_as (FailsAmid log (banks_of_stage running) clone) (says.failed clone) (λ n. ReadsJust bytes left (n + 1)) (λ n. ReadsJust bytes left (n + 1)) bytes before now (failing clone)
+      (λ n read. read) whole)
 
   short_as : RunsShort (says_by log running) bytes left before now → RunsShort says bytes left before now
   short_as (short_before begun same) = absurd same
-  short_as (short_amid whole) = short_amid (whole_as (AreLeftAmid log (banks_of_stage running)) says.left bytes before now amid whole)
-  short_as (short_writing front) = short_writing (front_as (StageStands log running) says.kept bytes before now kept front)
+  short_as (short_amid whole) =
+      short_amid (whole_as (AreLeftAmid log (banks_of_stage running)) says.left (ReadsToNext bytes left) (ReadsToNext bytes left) bytes before now amid (λ n read. read) whole)
+  short_as (short_writing front) = short_writing (front_as (StageStands log running) says.kept bytes left before now kept front)
   short_as (short_of_banks gone some) = short_of_banks (none gone) some
 
   ends_as : (fault : Option RunFault) → (IsTrue (tells fault) → (stage : Stage) → StageStands log running stage → says.told stage) → ReplayEnds (says_by log running) fault bytes left before now
@@ -94,59 +96,90 @@ module _ {B : Type 0} (log : B → Option Log) (running : RunningStage B) (says 
   ends_as None told ends = finishes_as (StageStands log running) says.told bytes left before now (told refl) ends
   ends_as (Some faults.Usage) told ends = ends
   ends_as (Some faults.ReadFault) told ends = breaks_as (StageStands log running) says.told bytes left before now (told refl) ends
-  ends_as (Some faults.WriteFault) told ends = front_as (StageStands log running) says.kept bytes before now kept ends
-  ends_as (Some (faults.BadLine line)) told ends = bad_as (StageStands log running) says.told bytes line before now (told refl) ends
+  ends_as (Some faults.WriteFault) told ends = front_as (StageStands log running) says.kept bytes left before now kept ends
+  ends_as (Some (faults.BadLine line)) told ends = bad_as (StageStands log running) says.told bytes line left before now (told refl) ends
   ends_as (Some faults.NoMemory) told ends = short_as ends
   ends_as (Some (faults.Device clone)) told ends = fails_as clone ends
-  ends_as (Some (faults.TooLarge line)) told ends = large_as (StageStands log running) says.told bytes line before now (told refl) ends
+  ends_as (Some (faults.TooLarge line)) told ends = large_as (StageStands log running) says.told bytes line left before now (told refl) ends
   ends_as (Some (faults.NotEmpty clone)) told ends = ends
 
--- ---- at each end the text of a run was written, and a front of one reply more at most
+-- ---- at each end the text of a run was written, and a front of one reply more at most; and no more was read than the next line
 
 -- it is the text of the lines before a line
-some_before : (bytes : List ℕ) (number : ℕ) (text : List ℕ) (stage : Stage) (before after : Option (List ℕ)) → RunsBefore (lines_of bytes) number text stage → Appends before after text
-    → WritesSome bytes before after
-some_before bytes number text stage before after runs written =
-    inl (record { lines = runs.front; rest = runs.rest; whole = runs.whole; text = text; stage = stage; runs = runs.runs; written = written; holds = tt })
+some_before : (bytes : List ℕ) (number : ℕ) (text : List ℕ) (stage : Stage) (left before after : Option (List ℕ)) → RunsBefore (lines_of bytes) number text stage → Appends before after text
+    → ((lines : ℕ) → number ≡ lines + 1 → ReadsToNext bytes left lines ⊎ MeetsTooLarge bytes left lines) → WritesSome bytes left before after
+some_before bytes number text stage left before after runs written read =
+    inl (record { lines = runs.front; rest = runs.rest; whole = runs.whole; text = text; stage = stage; runs = runs.runs; read = read (length runs.front) runs.counted; written = written; holds = tt })
 
 -- or of all lines
-some_all : (bytes text : List ℕ) (world : World) (before after : Option (List ℕ)) → Verdict (lines_of bytes) (Finished text world) → Appends before after text → WritesSome bytes before after
+some_all : (bytes text : List ℕ) (world : World) (left before after : Option (List ℕ)) → Verdict (lines_of bytes) (Finished text world) → Appends before after text
+    → ReadsJust bytes left (length (lines_of bytes) + 1) → WritesSome bytes left before after
 unfolding Verdict
-some_all bytes text world before after verdict written =
-    inl (record { lines = lines_of bytes; rest = []; whole = sym (append-nil (lines_of bytes)); text = text; stage = verdict.0; runs = verdict.1; written = written; holds = tt })
+some_all bytes text world left before after verdict written read =
+    inl (record { lines = lines_of bytes; rest = []; whole = sym (append-nil (lines_of bytes)); text = text; stage = verdict.0; runs = verdict.1; read = inl (inr read); written = written; holds = tt })
 
 -- or of those before the first that is bad
 
-some_bad : (bytes : List ℕ) (number : ℕ) (text : List ℕ) (stage : Stage) (before after : Option (List ℕ)) → Verdict (lines_of bytes) (BadLine number text stage) → Appends before after text
-    → WritesSome bytes before after
+some_bad : (bytes : List ℕ) (number : ℕ) (text : List ℕ) (stage : Stage) (left before after : Option (List ℕ)) → Verdict (lines_of bytes) (BadLine number text stage) → Appends before after text
+    → ReadsJust bytes left number → WritesSome bytes left before after
 unfolding Verdict
-some_bad bytes number text stage before after verdict written = some_before bytes number text stage before after verdict.before written
+some_bad bytes number text stage left before after verdict written read =
+    some_before bytes number text stage left before after verdict.before written (λ lines is. inl (inr (subst (λ (n : ℕ). ReadsJust bytes left n) is read)))
+
+-- or of those whose LF was read
+some_broken : (P : Stage → Type 0) (bytes : List ℕ) (left before after : Option (List ℕ)) → BreaksOff P bytes left before after → WritesSome bytes left before after
+some_broken P bytes left before after ends =
+    some_before bytes (ends.lines + 1) ends.text ends.stage left before after ends.done ends.written
+    (λ lines is. let same : ends.lines ≡ lines = omega (arith, is) in inl (inl (subst (λ (n : ℕ). ReadsInto bytes left n) same ends.read)))
 
 -- or nothing was written
-some_none : (bytes : List ℕ) (before after : Option (List ℕ)) → after ≡ before → WritesSome bytes before after
-some_none bytes before after none =
-    subst (λ (o : Option (List ℕ)). WritesSome bytes before o) (sym none) (inl (whole_first (λ stage rest. Unit {0}) before bytes tt))
+some_none : (bytes : List ℕ) (left before after : Option (List ℕ)) → HasNotBegun (Some bytes) left before after → WritesSome bytes left before after
+some_none bytes left before after begun =
+    subst (λ (o : Option (List ℕ)). WritesSome bytes left before o) (sym begun.none_written)
+    (inl (whole_first (λ stage rest. Unit {0}) (λ lines. ReadsToNext bytes left lines ⊎ MeetsTooLarge bytes left lines) before bytes tt (inl (inl (into_first bytes left begun.all_left)))))
 
-some_failed : (says : Saying) (clone : ℕ) (bytes : List ℕ) (left before now : Option (List ℕ)) → FailsSo says clone bytes left before now → WritesSome bytes before now
-some_failed says clone bytes left before now (fails_before begun same) = some_none bytes before now begun.none_written
-some_failed says clone bytes left before now (fails_amid whole) = inl (whole_any (says.failed clone) bytes before now whole)
+-- or it is that of the lines before the one under way
 
-some_short : (says : Saying) (bytes : List ℕ) (left before now : Option (List ℕ)) → RunsShort says bytes left before now → WritesSome bytes before now
-some_short says bytes left before now (short_before begun same) = some_none bytes before now begun.none_written
-some_short says bytes left before now (short_amid whole) = inl (whole_any says.left bytes before now whole)
-some_short says bytes left before now (short_writing front) = inr (front_as says.kept (λ stage. Unit {0}) bytes before now (λ stage holds. tt) front)
+some_amid : (P : Stage → List (List ℕ) → Type 0) (Read : ℕ → Type 0) (bytes : List ℕ) (left before now : Option (List ℕ)) → ((lines : ℕ) → Read lines → ReadsToNext bytes left lines)
+    → WritesWhole P Read bytes before now → WritesSome bytes left before now
+some_amid P Read bytes left before now read whole =
+    inl (whole_as P (λ stage rest. Unit {0}) Read (λ lines. ReadsToNext bytes left lines ⊎ MeetsTooLarge bytes left lines) bytes before now (λ stage rest holds. tt) (λ lines so. inl (read lines so)) whole)
+
+some_front : (P : Stage → Type 0) (bytes : List ℕ) (left before now : Option (List ℕ)) → WritesFront P bytes left before now → WritesSome bytes left before now
+some_front P bytes left before now front = inr (front_as P (λ stage. Unit {0}) bytes left before now (λ stage holds. tt) front)
+
+some_failed : (says : Saying) (clone : ℕ) (bytes : List ℕ) (left before now : Option (List ℕ)) → FailsSo says clone bytes left before now → WritesSome bytes left before now
+some_failed says clone bytes left before now (fails_before begun same) = some_none bytes left before now begun
+some_failed says clone bytes left before now (fails_amid whole) = some_amid (says.failed clone) (λ lines. ReadsJust bytes left (lines + 1)) bytes left before now (λ lines read. inr read) whole
+
+some_short : (says : Saying) (bytes : List ℕ) (left before now : Option (List ℕ)) → RunsShort says bytes left before now → WritesSome bytes left before now
+some_short says bytes left before now (short_before begun same) = some_none bytes left before now begun
+some_short says bytes left before now (short_amid whole) = some_amid says.left (ReadsToNext bytes left) bytes left before now (λ lines read. read) whole
+some_short says bytes left before now (short_writing front) = some_front says.kept bytes left before now front
 some_short says bytes left before now (short_of_banks none some) = some
 
-some_of_end : (says : Saying) (fault : Option RunFault) (bytes : List ℕ) (left before now : Option (List ℕ)) → ReplayEnds says fault bytes left before now → WritesSome bytes before now
-some_of_end says None bytes left before now ends = some_all bytes ends.text ends.world before now ends.verdict ends.written
-some_of_end says (Some faults.Usage) bytes left before now ends = some_none bytes before now ends.none_written
-some_of_end says (Some faults.ReadFault) bytes left before now ends = some_before bytes (ends.lines + 1) ends.text ends.stage before now ends.done ends.written
-some_of_end says (Some faults.WriteFault) bytes left before now ends = inr (front_as says.kept (λ stage. Unit {0}) bytes before now (λ stage holds. tt) ends)
-some_of_end says (Some (faults.BadLine line)) bytes left before now ends = some_bad bytes line ends.text ends.stage before now ends.verdict ends.written
+pub some_of_end : (says : Saying) (fault : Option RunFault) (bytes : List ℕ) (left before now : Option (List ℕ)) → ReplayEnds says fault bytes left before now → WritesSome bytes left before now
+some_of_end says None bytes left before now ends = some_all bytes ends.text ends.world left before now ends.verdict ends.written (just_whole bytes left ends.all ends.fits)
+some_of_end says (Some faults.Usage) bytes left before now ends = some_none bytes left before now ends
+some_of_end says (Some faults.ReadFault) bytes left before now ends = some_broken says.told bytes left before now ends
+some_of_end says (Some faults.WriteFault) bytes left before now ends = some_front says.kept bytes left before now ends
+some_of_end says (Some (faults.BadLine line)) bytes left before now ends = some_bad bytes line ends.text ends.stage left before now ends.verdict ends.written ends.read
 some_of_end says (Some faults.NoMemory) bytes left before now ends = some_short says bytes left before now ends
 some_of_end says (Some (faults.Device clone)) bytes left before now ends = some_failed says clone bytes left before now ends
-some_of_end says (Some (faults.TooLarge line)) bytes left before now ends = some_before bytes line ends.text ends.stage before now ends.done ends.written
-some_of_end says (Some (faults.NotEmpty clone)) bytes left before now ends = some_none bytes before now ends.none_written
+some_of_end says (Some (faults.TooLarge line)) bytes left before now ends =
+    some_before bytes line ends.text ends.stage left before now ends.done ends.written (λ lines is. inr (ends.meets lines is))
+some_of_end says (Some (faults.NotEmpty clone)) bytes left before now ends = some_none bytes left before now ends
+
+-- so it was no more than an input may have, and one byte
+
+within_next : (bytes : List ℕ) (left : Option (List ℕ)) (lines : ℕ) → ReadsToNext bytes left lines ⊎ MeetsTooLarge bytes left lines → IsReadWithin bytes left
+within_next bytes left lines (inl (inl into)) = within_few bytes left lines into.few
+within_next bytes left lines (inl (inr just)) = within_just bytes left (lines + 1) just
+within_next bytes left lines (inr meets) = within_few bytes left lines meets.few
+
+pub within_some : (bytes : List ℕ) (left before now : Option (List ℕ)) → WritesSome bytes left before now → IsReadWithin bytes left
+within_some bytes left before now (inl whole) = within_next bytes left (length whole.lines) whole.read
+within_some bytes left before now (inr front) = within_just bytes left (length front.lines + 1) front.read
 
 -- ---- the clauses of the run, where it came to the replay
 

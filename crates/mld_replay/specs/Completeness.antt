@@ -1,5 +1,5 @@
--- Runs that nothing stops: what follows from the contract of `run`. `complete_runs` cites `ReplaysComplete` and `SeedsComplete`, and
--- `run_completely` cites `RunsCompletely`.
+-- Runs that nothing stops, and how much a run reads: what follows from the contract of `run`. `complete_runs` cites `ReplaysComplete` and
+-- `SeedsComplete`, `few_bytes_are_read` cites `ReplaysReadFew`, and `run_completely` cites `RunsCompletely`.
 use Rattle.std.specs.Prelude.{◌≡◌, ◌↔◌, ℕ, List, Option, None, Some, Vec, slice_get, IsTrue}
 use Rattle.std.specs.declared.alloc.Global.{Global}
 use Rattle.mld_io.specs.Arm.{Meter}
@@ -8,6 +8,7 @@ use Rattle.mld_io.specs.Faults.{Rose}
 use Rattle.mld_io.specs.Lines.{lines_of}
 use Rattle.input_lines.specs.TooLarge.{IsTooLargeLine}
 use Rattle.input_lines.specs.Taken.{WhereTold}
+use Rattle.input_lines.specs.HowFar.{IsReadWithin}
 use Rattle.input_lines.specs.Untouched.{AreUntouched}
 use Rattle.schedule_generator.specs.Generated.{generated}
 use Rattle.schedule_text.specs.schedule_model.Runs.{Stage, Outcome, BadLine, Verdict}
@@ -95,8 +96,14 @@ abbrev pub SeedsComplete : (S K B : Type 0) → Type 0
 SeedsComplete S K B = (of : Telling S K B) (run : RunValue S K B) (seed count : ℕ)
     → RunClauses of run → NothingFailed of run → IsGenerate run.words seed count → CompletesSeed of run seed count
 
+-- whatever its end, a replay reads no more of its source than an input may have, and one byte
+abbrev pub ReplaysReadFew : (S K B : Type 0) → Type 0
+ReplaysReadFew S K B = (of : Telling S K B) (run : RunValue S K B)
+    → RunClauses of run → IsReplay run.words → WhereTold (of.left run.source) (λ bytes. IsReadWithin bytes (of.left run.source_now))
+
 -- all that is said of a run: the clauses of `run`, and what follows from them
 pub record RunsCompletely {S K B : Type 0} (of : Telling S K B) (run : RunValue S K B) : Type 0 where
   pub clauses : RunClauses of run
   pub replay : (bytes : List ℕ) → NothingFailed of run → ReadsGoodLines of run bytes → CompletesReplay of run bytes
   pub seed : (seed count : ℕ) → NothingFailed of run → IsGenerate run.words seed count → CompletesSeed of run seed count
+  pub few : IsReplay run.words → WhereTold (of.left run.source) (λ bytes. IsReadWithin bytes (of.left run.source_now))

@@ -1,11 +1,11 @@
 -- How a run ends, and what it has written then: its status, text, counts and banks, by its fault. `run` and `run_replay` cite `replay_status`,
 -- `IsReplay`, `ReplayEnds` with `says_of`, `LeavesAlone`, `tells`, `CountsFaults` and `Agrees`; `replay` cites them too, and `run_generated` some.
-use Rattle.std.specs.Prelude.{◌≡◌, ◌⊎◌, ℕ, ◌+◌, ◌<◌, List, [], ◌∷◌, ◌++◌, Bool, true, false, Option, None, Some, codes}
+use Rattle.std.specs.Prelude.{◌≡◌, ◌⊎◌, ℕ, ◌+◌, List, [], ◌∷◌, ◌++◌, length, Bool, true, false, Option, None, Some, codes}
 use Rattle.std.specs.Io.KnownBytes.{Appends}
 use Rattle.mld_io.specs.Faults.{Rose}
-use Rattle.mld_io.specs.Lines.{lines_of, IsCutShort}
-use Rattle.input_lines.specs.TooLarge.{left_after, IsTooLargeLine}
-use Rattle.input_lines.specs.Taken.{ReadsLines}
+use Rattle.mld_io.specs.Lines.{lines_of}
+use Rattle.input_lines.specs.TooLarge.{IsTooLargeLine}
+use Rattle.input_lines.specs.HowFar.{ReadsJust, ReadsInto, ReadsToNext, MeetsTooLarge}
 use Rattle.input_lines.specs.Untouched.{HasNotBegun}
 use Rattle.mld_model.specs.World.{World}
 use Rattle.schedule_text.specs.schedule_model.Runs.{Stage, Waiting, Running, Acts, Runs, RunsBefore, Outcome, Finished, BadLine, Verdict}
@@ -46,24 +46,23 @@ pub record Finishes (P : Stage → Type 0) (bytes : List ℕ) (left before after
   pub written : Appends before after text
   pub holds : P (Running world)
 
--- the line of the number is the first bad one, no line up to it is too large, and the text of the lines before it was written;
--- and this holds of the stage that they led to
-pub record StopsAtBad (P : Stage → Type 0) (bytes : List ℕ) (number : ℕ) (before after : Option (List ℕ)) : Type 0 where
+-- the line of the number is the first bad one, no line up to it is too large, and the text of the lines before it was written; what is
+-- behind it is left; and this holds of the stage that they led to
+pub record StopsAtBad (P : Stage → Type 0) (bytes : List ℕ) (number : ℕ) (left before after : Option (List ℕ)) : Type 0 where
   pub text : List ℕ
   pub stage : Stage
   pub verdict : Verdict (lines_of bytes) (BadLine number text stage)
-  pub fits : (lines : ℕ) → lines < number → ¬ IsTooLargeLine bytes lines
+  pub read : ReadsJust bytes left number
   pub written : Appends before after text
   pub holds : P stage
 
--- the line of the number is the first that is too large, the lines before it are a run, and their text was written; and this
--- holds of the stage that they led to
-pub record StopsAtLarge (P : Stage → Type 0) (bytes : List ℕ) (number : ℕ) (before after : Option (List ℕ)) : Type 0 where
+-- the line of the number is the first that is too large, the lines before it are a run, and their text was written; with the bytes
+-- behind them that were read it is no more than an input may have, and one; and this holds of the stage that they led to
+pub record StopsAtLarge (P : Stage → Type 0) (bytes : List ℕ) (number : ℕ) (left before after : Option (List ℕ)) : Type 0 where
   pub text : List ℕ
   pub stage : Stage
   pub done : RunsBefore (lines_of bytes) number text stage
-  pub fits : (lines : ℕ) → lines + 1 < number → ¬ IsTooLargeLine bytes lines
-  pub large : (lines : ℕ) → number ≡ lines + 1 → IsTooLargeLine bytes lines
+  pub meets : (lines : ℕ) → number ≡ lines + 1 → MeetsTooLarge bytes left lines
   pub written : Appends before after text
   pub holds : P stage
 
@@ -71,18 +70,16 @@ pub record StopsAtLarge (P : Stage → Type 0) (bytes : List ℕ) (number : ℕ)
 -- a part of one line was read; and this holds of the stage that they led to
 pub record BreaksOff (P : Stage → Type 0) (bytes : List ℕ) (left before after : Option (List ℕ)) : Type 0 where
   pub lines : ℕ
-  pub reads : ReadsLines bytes left lines
+  pub read : ReadsInto bytes left lines
   pub text : List ℕ
   pub stage : Stage
   pub done : RunsBefore (lines_of bytes) (lines + 1) text stage
-  pub fits : (line : ℕ) → line < lines → ¬ IsTooLargeLine bytes line
-  pub cut : IsCutShort (left_after lines bytes) left
   pub written : Appends before after text
   pub holds : P stage
 
--- the reply to a line could not be written: the text of the lines before it was, and a front of its own reply; and this holds of the stage that it
--- led to
-pub record WritesFront (P : Stage → Type 0) (bytes : List ℕ) (before after : Option (List ℕ)) : Type 0 where
+-- the reply to a line could not be written: the text of the lines before it was, and a front of its own reply; what is behind the line is left; and
+-- this holds of the stage that it led to
+pub record WritesFront (P : Stage → Type 0) (bytes : List ℕ) (left before after : Option (List ℕ)) : Type 0 where
   pub lines : List (List ℕ)
   pub line : List ℕ
   pub rest : List (List ℕ)
@@ -96,24 +93,28 @@ pub record WritesFront (P : Stage → Type 0) (bytes : List ℕ) (before after :
   pub front : List ℕ
   pub behind : List ℕ
   pub of_reply : front ++ behind ≡ reply
+  pub read : ReadsJust bytes left (length lines + 1)
   pub written : Appends before after (text ++ front)
   pub holds : P next
 
 -- what was written is the whole text of a run over the first lines of these bytes, and this holds of the stage that they led to, and of the lines
--- still to come
-pub record WritesWhole (P : Stage → List (List ℕ) → Type 0) (bytes : List ℕ) (before after : Option (List ℕ)) : Type 0 where
+-- still to come; and by how many they are, the source was read so far
+pub record WritesWhole (P : Stage → List (List ℕ) → Type 0) (Read : ℕ → Type 0) (bytes : List ℕ) (before after : Option (List ℕ)) : Type 0 where
   pub lines : List (List ℕ)
   pub rest : List (List ℕ)
   pub whole : lines_of bytes ≡ lines ++ rest
   pub text : List ℕ
   pub stage : Stage
   pub runs : Runs Waiting lines text stage
+  pub read : Read (length lines)
   pub written : Appends before after text
   pub holds : P stage rest
 
--- one or the other, whatever holds
-abbrev pub WritesSome : List ℕ → Option (List ℕ) → Option (List ℕ) → Type 0
-WritesSome bytes before after = WritesWhole (λ stage rest. Unit {0}) bytes before after ⊎ WritesFront (λ stage. Unit {0}) bytes before after
+-- one or the other, whatever holds; of the line behind those done no more was read than all of it, or it is too large
+abbrev pub WritesSome : List ℕ → Option (List ℕ) → Option (List ℕ) → Option (List ℕ) → Type 0
+WritesSome bytes left before after =
+    WritesWhole (λ stage rest. Unit {0}) (λ lines. ReadsToNext bytes left lines ⊎ MeetsTooLarge bytes left lines) bytes before after
+    ⊎ WritesFront (λ stage. Unit {0}) bytes left before after
 
 -- what is said of the world and the banks at the end of a run, by how far it came
 pub record Saying : Type 1 where
@@ -130,28 +131,29 @@ pub record Saying : Type 1 where
   -- where no banks come back
   pub none : Type 0
 
--- the device of the clone of this number failed: before the first line, or in the middle of a line or of the end, which concerns that clone
+-- the device of the clone of this number failed: before the first line, or in the middle of a line, behind which nothing was read, or of the end; and that
+-- concerns the clone
 pub data FailsSo (says : Saying) (clone : ℕ) (bytes : List ℕ) (left before after : Option (List ℕ)) : Type 0 where
   fails_before : HasNotBegun (Some bytes) left before after → says.same → FailsSo says clone bytes left before after
-  fails_amid : WritesWhole (says.failed clone) bytes before after → FailsSo says clone bytes left before after
+  fails_amid : WritesWhole (says.failed clone) (λ lines. ReadsJust bytes left (lines + 1)) bytes before after → FailsSo says clone bytes left before after
 
--- memory ran out: so too, or while a reply was written; or no banks come back
+-- memory ran out: so too, or while a line was read, or while a reply was written; or no banks come back
 pub data RunsShort (says : Saying) (bytes : List ℕ) (left before after : Option (List ℕ)) : Type 0 where
   short_before : HasNotBegun (Some bytes) left before after → says.same → RunsShort says bytes left before after
-  short_amid : WritesWhole says.left bytes before after → RunsShort says bytes left before after
-  short_writing : WritesFront says.kept bytes before after → RunsShort says bytes left before after
-  short_of_banks : says.none → WritesSome bytes before after → RunsShort says bytes left before after
+  short_amid : WritesWhole says.left (ReadsToNext bytes left) bytes before after → RunsShort says bytes left before after
+  short_writing : WritesFront says.kept bytes left before after → RunsShort says bytes left before after
+  short_of_banks : says.none → WritesSome bytes left before after → RunsShort says bytes left before after
 
 -- How a run over these bytes ended, by its fault: what it did, what it left of them, what it wrote, and what is said then.
 abbrev pub ReplayEnds : Saying → Option RunFault → List ℕ → Option (List ℕ) → Option (List ℕ) → Option (List ℕ) → Type 0
 ReplayEnds says None bytes left before after = Finishes says.told bytes left before after
 ReplayEnds says (Some faults.Usage) bytes left before after = HasNotBegun (Some bytes) left before after
 ReplayEnds says (Some faults.ReadFault) bytes left before after = BreaksOff says.told bytes left before after
-ReplayEnds says (Some faults.WriteFault) bytes left before after = WritesFront says.kept bytes before after
-ReplayEnds says (Some (faults.BadLine line)) bytes left before after = StopsAtBad says.told bytes line before after
+ReplayEnds says (Some faults.WriteFault) bytes left before after = WritesFront says.kept bytes left before after
+ReplayEnds says (Some (faults.BadLine line)) bytes left before after = StopsAtBad says.told bytes line left before after
 ReplayEnds says (Some faults.NoMemory) bytes left before after = RunsShort says bytes left before after
 ReplayEnds says (Some (faults.Device clone)) bytes left before after = FailsSo says clone bytes left before after
-ReplayEnds says (Some (faults.TooLarge line)) bytes left before after = StopsAtLarge says.told bytes line before after
+ReplayEnds says (Some (faults.TooLarge line)) bytes left before after = StopsAtLarge says.told bytes line left before after
 ReplayEnds says (Some (faults.NotEmpty clone)) bytes left before after = HasNotBegun (Some bytes) left before after
 
 -- what a run leaves as it was, by its fault: source, sink and banks where its words are none that it knows, and source and sink where

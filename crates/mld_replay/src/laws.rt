@@ -1,8 +1,8 @@
-//! What follows from the contract of `run` where nothing stops a run: it does all, unless memory runs out.
+//! What follows from the contract of `run`: where nothing stops a run it does all, unless memory runs out; and how much it reads at most.
 ghost use Rattle.std.specs.Prelude.{◌≡◌, vec_len};
 ghost use Rattle.mld_model.specs.World.{clone_count};
 ghost use Rattle.net_world.specs.CrashedWorlds.{AreUnarmed};
-ghost use Rattle.mld_replay.specs.Completeness.{ReplaysComplete, SeedsComplete, RunsCompletely};
+ghost use Rattle.mld_replay.specs.Completeness.{ReplaysComplete, SeedsComplete, ReplaysReadFew, RunsCompletely};
 ghost use Rattle.mld_replay.specs.ReplayWords.{texts_of};
 
 use crate::run::{Ran, run};
@@ -15,6 +15,12 @@ use std::thread::Threads;
 pub fn complete_runs<S, K, B>()
     ensures replay { ReplaysComplete S K B }
     ensures seed { SeedsComplete S K B }
+{}
+
+/// By the word `replay` a run of which the clauses of `run` hold reads at most 16,777,217 bytes of a source that tells its bytes, whatever its
+/// end: as many as an input may have, and one. By other words nothing is read.
+pub fn few_bytes_are_read<S, K, B>()
+    ensures { ReplaysReadFew S K B }
 {}
 
 /// Does what `run` does, and says it all in one record, with what follows from it.

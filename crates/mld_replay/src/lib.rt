@@ -13,5 +13,5 @@ mod stages;
 mod stops;
 mod words;
 
-pub use laws::{complete_runs, run_completely};
+pub use laws::{complete_runs, few_bytes_are_read, run_completely};
 pub use net_world;

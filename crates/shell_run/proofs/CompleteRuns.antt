@@ -6,10 +6,11 @@ use Rattle.shell_session.specs.Shells.{FoundOnBanks, Shut}
 use Rattle.shell_session.proofs.CompleteLines.{had_none}
 use Rattle.shell_run.specs.declared.run.ShellFault.{ShellFault}
 use Rattle.shell_run.specs.declared.run.ShellFault.TheVariants as faults
-use Rattle.shell_run.specs.ShellCompleteness.{Tellers, ShellCall, ShellClauses, HasNoFault, GivesLines, DoesAllLines, ShellEndsWell, ShellIsComplete, EndsWithoutFault}
+use Rattle.shell_run.specs.ShellCompleteness.{Tellers, ShellCall, ShellClauses, HasNoFault, GivesLines, DoesAllLines, ShellEndsWell, ShellIsComplete, EndsWithoutFault, ShellReadsFew}
 use Rattle.shell_run.specs.Inputs.{IsReadSo}
 use Rattle.shell_run.specs.ShellEnds.{ShellEnds, ShellEdges}
 use Rattle.shell_run.specs.ShellStatuses.{shell_status}
+use Rattle.shell_run.proofs.InputLemmas.{within_end}
 
 module _ {S K B : Type 0} (tell : Tellers S K B) (call : ShellCall S K B) (clauses : ShellClauses tell call) (fine : HasNoFault tell call) where
   -- what the run had and left
@@ -56,10 +57,13 @@ module _ {S K B : Type 0} (tell : Tellers S K B) (call : ShellCall S K B) (claus
   by_fault bytes gives (Some faults.WriteFault) is reads ends = absurd (fine.writes (clauses.writes.failed is))
   by_fault bytes gives (Some faults.NoMemory) is reads ends = inr (clauses.status ∙ ap shell_status is)
   by_fault bytes gives (Some faults.Device) is reads ends = absurd (had_none _ _ clauses.meter fine.banks is)
-  by_fault bytes gives (Some (faults.TooLarge line)) is reads ends = absurd (gives.fits _ reads.large)
+  by_fault bytes gives (Some (faults.TooLarge line)) is reads ends = absurd (gives.fits _ reads.meets.large)
 
 pub complete : {S K B : Type 0} (tell : Tellers S K B) → ShellIsComplete tell
 complete tell call clauses fine bytes gives = by_fault tell call clauses fine bytes gives call.ran.fault refl (clauses.input bytes gives.has) clauses.ends
 
 pub without_fault : {S K B : Type 0} (tell : Tellers S K B) → EndsWithoutFault tell
 without_fault tell call clauses fine = by_status tell call clauses fine call.ran.fault refl
+
+pub reads_few : {S K B : Type 0} (tell : Tellers S K B) → ShellReadsFew tell
+reads_few tell call clauses bytes told = within_end call.ran.fault (tell.left call.source_after) bytes (clauses.input bytes told)

@@ -1,14 +1,16 @@
 -- A run of the shell from line to line, and how it ends.
-use Rattle.std.proofs.Common.{◌≡◌, ℕ, ◌+◌, List, [], ◌∷◌, ◌++◌, refl, sym, ◌∙◌, ap, arith, subst, length, Option, None, Some, append_assoc, append-nil, length-append, take}
+use Rattle.std.proofs.Common.{◌≡◌, ◌≢◌, ℕ, ◌+◌, Bool, false, List, [], ◌∷◌, ◌++◌, refl, sym, ◌∙◌, ap, arith, subst, length, Option, None, Some, append_assoc, append-nil, length-append, take}
 use Rattle.std.specs.Io.KnownBytes.{Appends}
 use Rattle.mld_io.specs.Disk.{Log, seen, grown_by, MayLeave, LeavesOnly, LeavesMeanwhile}
 use Rattle.mld_io.proofs.DiskLaws.{AtEachMoment-last}
-use Rattle.mld_io.specs.Lines.{lines_of, IsCutShort}
+use Rattle.mld_io.specs.Lines.{lines_of}
 use Rattle.shell_session.specs.journal_sides.Pairs.{read_banks}
 use Rattle.shell_session.specs.clone_parts.KeptSteps.{KeptStep}
 use Rattle.input_lines.specs.TooLarge.{left_after, BreaksLimits, IsTooLargeLine}
-use Rattle.input_lines.specs.Taken.{TakesLine, IsLeft, ReadsLines}
+use Rattle.input_lines.specs.Taken.{TakesLine, IsLeft, KnowsEnd}
+use Rattle.input_lines.specs.HowFar.{IsBrokenOff, ReadsInto}
 use Rattle.input_lines.proofs.TakenLemmas.{left_first, taken_left, all_fit, large_next}
+use Rattle.input_lines.proofs.HowFarLemmas.{into_next, into_first}
 use Rattle.shell_session.specs.Shells.{Shell, Shut, FoundOnBanks, found_in, found_of, found_after}
 use Rattle.shell_session.specs.ShellRuns.{ShellLine, ShellRuns}
 use Rattle.shell_session.proofs.RunLaws.{steps_lead}
@@ -171,9 +173,13 @@ first_of_way bytes left size count lines counted at = record {
   fits = λ before below large. at.fits before (omega (arith, below, counted)) large;
 }
 
-pub are_first : {B : Type 0} (log : B → Option Log) (found : FoundOnBanks) (old : Option Log) (given left before now : Option (List ℕ)) (size : ℕ) (session : Session B) (count : ℕ)
-    → (way : IsShellUnderWay log found old given left before now size session count) → IfTold given AreFirstLines way.done.lines
-are_first log found old given left before now size session count way bytes told = first_of_way bytes left size count way.done.lines way.counted (way.left_of bytes told)
+-- nothing was read
+pub are_none : {B : Type 0} (log : B → Option Log) (found : FoundOnBanks) (old : Option Log) (given before now : Option (List ℕ)) (size : ℕ) (session : Session B)
+    → (way : IsShellUnderWay log found old given given before now size session 0) → IfTold given (AreReadLines given) way.done.lines
+are_none log found old given before now size session way bytes told = record {
+  first = first_of_way bytes given size 0 way.done.lines way.counted (way.left_of bytes told);
+  read = subst (λ (n : ℕ). ReadsInto bytes given n) way.counted (into_first bytes given told);
+}
 
 pub are_all : {B : Type 0} (log : B → Option Log) (found : FoundOnBanks) (old : Option Log) (given left rest before now : Option (List ℕ)) (size : ℕ) (session : Session B) (count : ℕ)
     → (way : IsShellUnderWay log found old given left before now size session count)
@@ -188,16 +194,14 @@ are_all log found old given left rest before now size session count way none byt
       fits = all_fit bytes left size count way.done.lines at end.0;
     }
 
-pub are_read : {B : Type 0} (log : B → Option Log) (found : FoundOnBanks) (old : Option Log) (given left rest before now : Option (List ℕ)) (size : ℕ) (session : Session B) (count : ℕ)
-    → (way : IsShellUnderWay log found old given left before now size session count)
-    → ((bytes : List ℕ) → left ≡ Some bytes → IsCutShort bytes rest) → ((bytes : List ℕ) → given ≡ Some bytes → ReadsLines bytes rest count)
-    → IfTold given (AreReadLines rest) way.done.lines
-are_read log found old given left rest before now size session count way cut reads bytes told =
+pub are_read : {B : Type 0} (log : B → Option Log) (found : FoundOnBanks) (old : Option Log) (given left rest before now : Option (List ℕ)) (size : ℕ) (session : Session B) (count : ℕ) (ended : Bool) (fault : InputFault)
+    → (way : IsShellUnderWay log found old given left before now size session count) → KnowsEnd ended given left count → ended ≡ false
+    → ((bytes : List ℕ) → left ≡ Some bytes → IsBrokenOff size fault bytes rest) → ((line : ℕ) → fault ≢ inputs.TooLarge line) → IfTold given (AreReadLines rest) way.done.lines
+are_read log found old given left rest before now size session count ended fault way knows not_yet broken fits bytes told =
     let at : IsLeft bytes left size count way.done.lines = way.left_of bytes told in
     record {
       first = first_of_way bytes left size count way.done.lines way.counted at;
-      reads = subst (λ (n : ℕ). ReadsLines bytes rest n) way.counted (reads bytes told);
-      cut = subst (λ (n : ℕ). IsCutShort (left_after n bytes) rest) way.counted (subst (λ (b : List ℕ). IsCutShort b rest) at.behind (cut at.rest at.is));
+      read = subst (λ (n : ℕ). ReadsInto bytes rest n) way.counted (into_next given left rest size count way.done.lines ended fault knows not_yet fits broken bytes told at);
     }
 
 pub are_before : {B : Type 0} (log : B → Option Log) (found : FoundOnBanks) (old : Option Log) (given left before now : Option (List ℕ)) (size : ℕ) (session : Session B) (count number : ℕ)
@@ -213,10 +217,13 @@ are_before log found old given left before now size session count number way cou
 
 are_up_to : {B : Type 0} (log : B → Option Log) (found : FoundOnBanks) (old : Option Log) (given left rest before now : Option (List ℕ)) (size grown : ℕ) (session : Session B) (count : ℕ) (line : List ℕ)
     → (way : IsShellUnderWay log found old given left before now size session count)
-    → ((bytes : List ℕ) → left ≡ Some bytes → TakesLine size bytes rest grown (Some line)) → IfTold given (AreLinesUpTo line) way.done.lines
+    → ((bytes : List ℕ) → left ≡ Some bytes → TakesLine size bytes rest grown (Some line)) → IfTold given (AreLinesUpTo line rest) way.done.lines
 are_up_to log found old given left rest before now size grown session count line way takes bytes told =
-    first_of_way bytes rest grown (count + 1) (way.done.lines ++ line ∷ []) (omega (arith, way.counted, length-append way.done.lines (line ∷ [])))
-    (taken_left given left size grown count way.done.lines line rest way.left_of takes bytes told)
+    let at : IsLeft bytes rest grown (count + 1) (way.done.lines ++ line ∷ []) = taken_left given left size grown count way.done.lines line rest way.left_of takes bytes told in
+    record {
+      first = first_of_way bytes rest grown (count + 1) (way.done.lines ++ line ∷ []) (omega (arith, way.counted, length-append way.done.lines (line ∷ []))) at;
+      left_is = subst (λ (n : ℕ). rest ≡ Some (left_after (n + 1) bytes)) way.counted (at.is ∙ ap (λ (b : List ℕ). Some b) at.behind);
+    }
 
 -- ---- how it ends
 
@@ -237,7 +244,7 @@ pub stops_within : {B : Type 0} (log : B → Option Log) (found : FoundOnBanks) 
     → old ≡ Some first → IsShellUnderWay log found old given left before now size session count
     → ((bytes : List ℕ) → left ≡ Some bytes → TakesLine size bytes rest grown (Some line))
     → ((shell : Shell) → SessionStands log session shell → StopsLine log shell line (session_banks session) back)
-    → StopsWithinLine found (record { given = given; before = before; after = now; old = old; now = log back })
+    → StopsWithinLine found rest (record { given = given; before = before; after = now; old = old; now = log back })
 stops_within log found old first given left rest before now size grown session count line back told way takes stops =
     let stop : StopsLine log way.done.shell line (session_banks session) back = stops way.done.shell way.stands in
     record {
@@ -256,7 +263,7 @@ pub stops_writing : {B : Type 0} (log : B → Option Log) (found : FoundOnBanks)
     → ((bytes : List ℕ) → left ≡ Some bytes → TakesLine size bytes rest grown (Some line))
     → ((shell : Shell) → SessionStands log session shell → DoesLine log shell line (session_banks session) had next reply) → had ≡ []
     → Appends now after (take n reply)
-    → StopsWriting found (record { given = given; before = before; after = after; old = old; now = log (session_banks next) })
+    → StopsWriting found rest (record { given = given; before = before; after = after; old = old; now = log (session_banks next) })
 stops_writing log found old given left rest before now after size grown session next count line had reply n way takes does none writes =
     let act : DoesLine log way.done.shell line (session_banks session) had next reply = does way.done.shell way.stands in
     let same : reply ≡ act.text = act.written ∙ ap (λ (t : List ℕ). t ++ act.text) none in
@@ -287,19 +294,19 @@ stops_writing log found old given left rest before now after size grown session 
 
 -- where a line could not be read
 pub ends_reading : (fault : InputFault) (found : FoundOnBanks) (left : Option (List ℕ)) (ends : ShellEdges)
-    → (fault ≡ inputs.ReadFault → StopsBetweenLines (AreReadLines left) found ends) → ((at : ℕ) → fault ≡ inputs.TooLarge at → StopsBetweenLines (AreLinesBefore at) found ends)
-    → StopsBetweenLines AreFirstLines found ends → ShellEnds (Some (shell_fault_of_input fault)) found left ends
-ends_reading inputs.ReadFault found left ends cut large stops = cut refl
-ends_reading (inputs.TooLarge at) found left ends cut large stops = large at refl
-ends_reading inputs.NoMemory found left ends cut large stops = between stops
+    → (((line : ℕ) → fault ≢ inputs.TooLarge line) → StopsBetweenLines (AreReadLines left) found ends)
+    → ((at : ℕ) → fault ≡ inputs.TooLarge at → StopsBetweenLines (AreLinesBefore at) found ends) → ShellEnds (Some (shell_fault_of_input fault)) found left ends
+ends_reading inputs.ReadFault found left ends read large = read (λ line is. absurd (cc (is)))
+ends_reading (inputs.TooLarge at) found left ends read large = large at refl
+ends_reading inputs.NoMemory found left ends read large = between (read (λ line is. absurd (cc (is))))
 
 -- where one was not done
-pub ends_line : (fault : SessionFault) (found : FoundOnBanks) (left : Option (List ℕ)) (ends : ShellEdges) → StopsWithinLine found ends → ShellEnds (Some (fault_of_line fault)) found left ends
+pub ends_line : (fault : SessionFault) (found : FoundOnBanks) (left : Option (List ℕ)) (ends : ShellEdges) → StopsWithinLine found left ends → ShellEnds (Some (fault_of_line fault)) found left ends
 ends_line line_faults.Device found left ends stops = stops
 ends_line line_faults.NoMemory found left ends stops = within stops
 
 -- where its reply could not be written
-pub ends_writing : (fault : WriteFault) (found : FoundOnBanks) (left : Option (List ℕ)) (ends : ShellEdges) → StopsWriting found ends → ShellEnds (Some (shell_fault_of_write fault)) found left ends
+pub ends_writing : (fault : WriteFault) (found : FoundOnBanks) (left : Option (List ℕ)) (ends : ShellEdges) → StopsWriting found left ends → ShellEnds (Some (shell_fault_of_write fault)) found left ends
 ends_writing writes.Failed found left ends stops = stops
 ends_writing writes.NoMemory found left ends stops = writing stops
 
@@ -310,4 +317,4 @@ not_read log words_faults.Usage banks given before first told = record { nothing
 not_read log words_faults.NoMemory banks given before first told =
     let found : FoundOnBanks = found_in (read_banks (seen first)) in
     let way : IsShellUnderWay log found (log banks) given given before before 0 (sessions.Shut banks) 0 = way_first log banks (sessions.Shut banks) given before 0 first refl refl told in
-    between (stops_between log AreFirstLines found (log banks) given given before before 0 (sessions.Shut banks) 0 way (are_first log found (log banks) given given before before 0 (sessions.Shut banks) 0 way))
+    between (stops_between log (AreReadLines given) found (log banks) given given before before 0 (sessions.Shut banks) 0 way (are_none log found (log banks) given before before 0 (sessions.Shut banks) way))

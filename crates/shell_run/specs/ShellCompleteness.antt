@@ -1,5 +1,5 @@
 -- A run of the shell does all lines where nothing failed, unless memory is wanting: what the clauses of `shell` say together. `all_lines_are_done` cites
--- `ShellIsComplete` and `EndsWithoutFault`.
+-- `ShellIsComplete` and `EndsWithoutFault`, and `few_bytes_are_read` `ShellReadsFew`.
 use Rattle.std.specs.Prelude.{◌≡◌, ◌⊎◌, ℕ, List, [], Option, Some}
 use Rattle.std.specs.Io.KnownBytes.{Appends}
 use Rattle.mld_io.specs.Arm.{Meter}
@@ -8,6 +8,7 @@ use Rattle.mld_io.specs.Faults.{Rose}
 use Rattle.mld_io.specs.Lines.{lines_of}
 use Rattle.input_lines.specs.InputFaults.{RoseJustWhere}
 use Rattle.input_lines.specs.Taken.{WhereTold}
+use Rattle.input_lines.specs.HowFar.{IsReadWithin}
 use Rattle.input_lines.specs.TooLarge.{IsTooLargeLine}
 use Rattle.input_lines.specs.Untouched.{AreUntouched}
 use Rattle.shell_session.specs.clone_parts.KeptSteps.{KeptStep}
@@ -98,3 +99,7 @@ ShellIsComplete {S} {K} {B} tell = (call : ShellCall S K B) → ShellClauses tel
 abbrev pub EndsWithoutFault : {S K B : Type 0} → Tellers S K B → Type 0
 EndsWithoutFault {S} {K} {B} tell = (call : ShellCall S K B) → ShellClauses tell call → HasNoFault tell call
     → (call.ran.status ≡ 0) ⊎ ((call.ran.status ≡ 5) ⊎ (call.ran.status ≡ 7))
+
+-- whatever its end, it reads no more of a source than an input may have, and one byte
+abbrev pub ShellReadsFew : {S K B : Type 0} → Tellers S K B → Type 0
+ShellReadsFew {S} {K} {B} tell = (call : ShellCall S K B) → ShellClauses tell call → WhereTold (tell.left call.source) (λ bytes. IsReadWithin bytes (tell.left call.source_after))

@@ -9,7 +9,7 @@ use Rattle.shell_session.specs.Shells.{Shell, Shut, FoundOnBanks, found_of}
 use Rattle.shell_session.specs.ShellRuns.{ShellLine, ShellRuns, IsDueByLine}
 use Rattle.shell_session.specs.Sessions.{HasFound}
 use Rattle.shell_session.specs.RunEnds.{LeavesDone}
-use Rattle.shell_run.specs.Inputs.{AreFirstLines, AreAllLines, AreReadLines, AreLinesBefore, AreLinesUpTo, IfTold}
+use Rattle.shell_run.specs.Inputs.{AreAllLines, AreReadLines, AreLinesBefore, AreLinesUpTo, IfTold}
 use Rattle.shell_run.specs.declared.run.ShellFault.{ShellFault}
 use Rattle.shell_run.specs.declared.run.ShellFault.TheVariants as faults
 
@@ -40,20 +40,20 @@ pub record StopsBetweenLines (Lines : List ℕ → List (List ℕ) → Type 0) (
 
 -- it ended in the middle of a line: the text of the lines before was written, and of the durable steps that the line had to make a front may
 -- be done
-pub record StopsWithinLine (found : FoundOnBanks) (ends : ShellEdges) : Type 0 where
+pub record StopsWithinLine (found : FoundOnBanks) (left : Option (List ℕ)) (ends : ShellEdges) : Type 0 where
   pub done : LinesDone found
   pub line : List ℕ
-  pub lines_are : IfTold ends.given (AreLinesUpTo line) done.lines
+  pub lines_are : IfTold ends.given (AreLinesUpTo line left) done.lines
   pub written : Appends ends.before ends.after done.text
   pub due : List KeptStep
   pub is_due : (due ≡ []) ⊎ IsDueByLine done.shell line due
   pub leaves : LeavesDone found done.steps due ends.old ends.now
 
 -- it ended behind a line that was done, and of the line's reply a front was written
-pub record StopsWriting (found : FoundOnBanks) (ends : ShellEdges) : Type 0 where
+pub record StopsWriting (found : FoundOnBanks) (left : Option (List ℕ)) (ends : ShellEdges) : Type 0 where
   pub done : LinesDone found
   pub line : List ℕ
-  pub lines_are : IfTold ends.given (AreLinesUpTo line) done.lines
+  pub lines_are : IfTold ends.given (AreLinesUpTo line left) done.lines
   pub reply : List ℕ
   pub steps : List KeptStep
   pub next : Shell
@@ -64,10 +64,10 @@ pub record StopsWriting (found : FoundOnBanks) (ends : ShellEdges) : Type 0 wher
   pub leaves : LeavesDone found (done.steps ++ steps) [] ends.old ends.now
 
 -- it ended at any of these
-pub data ShellStopsAnywhere (found : FoundOnBanks) (ends : ShellEdges) : Type 0 where
-  between : StopsBetweenLines AreFirstLines found ends → ShellStopsAnywhere found ends
-  within : StopsWithinLine found ends → ShellStopsAnywhere found ends
-  writing : StopsWriting found ends → ShellStopsAnywhere found ends
+pub data ShellStopsAnywhere (found : FoundOnBanks) (left : Option (List ℕ)) (ends : ShellEdges) : Type 0 where
+  between : StopsBetweenLines (AreReadLines left) found ends → ShellStopsAnywhere found left ends
+  within : StopsWithinLine found left ends → ShellStopsAnywhere found left ends
+  writing : StopsWriting found left ends → ShellStopsAnywhere found left ends
 
 -- it did not begin: nothing was read or written, and no bank was called
 pub record ShellHasNotBegun (left : Option (List ℕ)) (ends : ShellEdges) : Type 0 where
@@ -79,7 +79,7 @@ abbrev pub ShellEnds : Option ShellFault → FoundOnBanks → Option (List ℕ) 
 ShellEnds None found left ends = StopsBetweenLines (AreAllLines left) found ends
 ShellEnds (Some faults.Usage) found left ends = ShellHasNotBegun left ends
 ShellEnds (Some faults.ReadFault) found left ends = StopsBetweenLines (AreReadLines left) found ends
-ShellEnds (Some faults.WriteFault) found left ends = StopsWriting found ends
-ShellEnds (Some faults.NoMemory) found left ends = ShellStopsAnywhere found ends
-ShellEnds (Some faults.Device) found left ends = StopsWithinLine found ends
+ShellEnds (Some faults.WriteFault) found left ends = StopsWriting found left ends
+ShellEnds (Some faults.NoMemory) found left ends = ShellStopsAnywhere found left ends
+ShellEnds (Some faults.Device) found left ends = StopsWithinLine found left ends
 ShellEnds (Some (faults.TooLarge line)) found left ends = StopsBetweenLines (AreLinesBefore line) found ends

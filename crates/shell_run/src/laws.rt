@@ -1,5 +1,5 @@
-//! The law of a run of the shell. The function has no code, and its contract is the law.
-ghost use Rattle.shell_run.specs.ShellCompleteness.{EndsWithoutFault, ShellIsComplete};
+//! The laws of a run of the shell. A function has no code, and its contract is the law.
+ghost use Rattle.shell_run.specs.ShellCompleteness.{EndsWithoutFault, ShellIsComplete, ShellReadsFew};
 
 use mld_io::{Banks, Sink, Source};
 
@@ -16,6 +16,19 @@ pub fn all_lines_are_done<S: Source, K: Sink, B: Banks>()
       meter = B.meter;
     }) }
     ensures statuses { EndsWithoutFault (record {
+      left = S.left;
+      reads = S.faults;
+      held = K.held;
+      writes = K.faults;
+      log = B.log;
+      meter = B.meter;
+    }) }
+{}
+
+/// Whatever its end, a run reads at most 16,777,217 bytes of a source that tells its bytes: as many as an input may have, and one. It
+/// follows from the clauses of `shell`.
+pub fn few_bytes_are_read<S: Source, K: Sink, B: Banks>()
+    ensures { ShellReadsFew (record {
       left = S.left;
       reads = S.faults;
       held = K.held;

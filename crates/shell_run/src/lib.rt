@@ -8,4 +8,4 @@ pub mod run;
 
 pub use faults::FolderFault;
 pub use folder::read_folder;
-pub use laws::all_lines_are_done;
+pub use laws::{all_lines_are_done, few_bytes_are_read};

@@ -1,9 +1,11 @@
-use Rattle.std.proofs.Common.{◌≡◌, ◌∙◌, ◌∷◌, ◌++◌, List, ℕ, refl, sym, ap, arith, Some}
+use Rattle.std.proofs.Common.{◌≡◌, ◌∙◌, ◌∷◌, ◌++◌, List, ℕ, refl, sym, ap, arith, inl, Some}
 use Rattle.std.specs.Result.{result_err}
 use Rattle.std.proofs.lemmas.Result.{err_from_is_err_and}
 use Rattle.input_lines.proofs.TakenLemmas as input
-use Rattle.input_lines.proofs.TakenLemmas.{end_first, end_more, end_cut, end_none, takes_some, end_of_line, advanced, read_well}
-use Rattle.mld_replay.proofs.RunLemmas.{under_way_first, under_way_more, whole_first, whole_of_way, line_there, none_there, front_of_reply, stops_bad_at, stops_large, breaks_off, finishes, ends_waiting_at, on_ok, err_same, ends_reading, ends_stopped, ends_writing, ends_lines, reading_replays, line_replays, writing_replays, end_replays, reads_counted, writes_counted, reads_same, writes_same, not_of_reading, not_of_writing, reading_not_writing, line_not_reading, line_not_writing, writing_not_reading, end_not_reading, end_not_writing}
+use Rattle.input_lines.proofs.TakenLemmas.{end_first, end_more, end_none, takes_some, end_of_line, advanced, read_well}
+use Rattle.input_lines.proofs.HowFarLemmas.{into_first}
+use Rattle.input_lines.specs.HowFar.{ReadsToNext}
+use Rattle.mld_replay.proofs.RunLemmas.{under_way_first, under_way_more, whole_first, whole_of_way, line_there, none_there, just_more, just_none, front_of_reply, stops_bad_at, stops_large, breaks_off, part_read, finishes, ends_waiting_at, on_ok, err_same, ends_reading, ends_stopped, ends_writing, ends_lines, reading_replays, line_replays, writing_replays, end_replays, reads_counted, writes_counted, reads_same, writes_same, not_of_reading, not_of_writing, reading_not_writing, line_not_reading, line_not_writing, writing_not_reading, end_not_reading, end_not_writing}
 use Rattle.mld_io.specs.Lines.{lines_of}
 use Rattle.schedule_text.specs.schedule_model.Runs.{Stage, Waiting}
 use Rattle.mld_replay.specs.BanksLeft.{AreLeftAmid}
@@ -65,7 +67,8 @@ pub returns-in_err-lines-clause-ends : goal.returns-in_err-lines-clause-ends
 returns-in_err-lines-clause-ends g c = λ bytes told.
     let p = err_from_is_err_and c.from_residual.result c.from_residual.ensures.1 in
     rw (p.1, p.2)
-    (short_amid (whole_first (AreLeftAmid g.B.Banks.log (banks_of_stage c.args.stage.now)) (g.K.Sink.held c.args.sink.now) bytes (still_left g.B.Banks.log c.args.stage.now Waiting (lines_of bytes) c.requires.waits)))
+    (short_amid (whole_first (AreLeftAmid g.B.Banks.log (banks_of_stage c.args.stage.now)) (ReadsToNext bytes (g.S.Source.left c.args.source.now)) (g.K.Sink.held c.args.sink.now) bytes (still_left g.B.Banks.log c.args.stage.now Waiting (lines_of bytes) c.requires.waits)
+    (inl (into_first bytes (g.S.Source.left c.args.source.now) told))))
 
 pub returns-in_err-lines-clause-back : goal.returns-in_err-lines-clause-back
 returns-in_err-lines-clause-back g c =
@@ -88,18 +91,17 @@ pub returns-in_err-line-clause-ends : goal.returns-in_err-line-clause-ends
 returns-in_err-line-clause-ends g c = λ bytes told.
     let p = err_from_is_err_and c.from_residual-in_err-line.result c.from_residual-in_err-line.ensures.1 in
     rw (p.1, p.2)
-    (ends_reading (says_by g.B.Banks.log c.loop-reply.stage) c.in_err-line.field-0.0 bytes (g.S.Source.left c.next_line.new.source) (g.K.Sink.held c.args.sink.now) (g.K.Sink.held c.loop-reply.sink)
-    (λ is. breaks_off g.B.Banks.log (g.S.Source.left c.args.source.now) (g.S.Source.left c.loop-reply.source) (g.S.Source.left c.next_line.new.source) (g.K.Sink.held c.args.sink.now) (g.K.Sink.held c.loop-reply.sink)
-    c.loop-reply.lines.taken c.loop-reply.stage c.loop-reply.done c.loop-reply.invariant.way (c.in_err-line.ensures.broken_off (input.err_same _ _ is))
-    (end_cut (g.S.Source.left c.args.source.now) (g.S.Source.left c.loop-reply.source) (g.S.Source.left c.next_line.new.source) c.loop-reply.done c.loop-reply.lines.ended c.loop-reply.invariant.ends
-    c.in_err-line.ensures.failed (c.in_err-line.ensures.broken_off (input.err_same _ _ is))) bytes told)
+    (ends_reading (says_by g.B.Banks.log c.loop-reply.stage) c.in_err-line.field-0.0 bytes (g.S.Source.left c.next_line.new.source) (g.K.Sink.held c.args.sink.now) (g.K.Sink.held c.loop-reply.sink) c.loop-reply.done
+    (part_read g.B.Banks.log (g.S.Source.left c.args.source.now) (g.S.Source.left c.loop-reply.source) (g.S.Source.left c.next_line.new.source) (g.K.Sink.held c.args.sink.now) (g.K.Sink.held c.loop-reply.sink) c.loop-reply.lines.taken c.loop-reply.stage c.loop-reply.done c.loop-reply.lines.ended c.in_err-line.field-0.0 c.loop-reply.invariant.way
+    c.loop-reply.invariant.ends c.in_err-line.ensures.failed c.in_err-line.ensures.broken_off bytes told)
+    (breaks_off g.B.Banks.log (g.S.Source.left c.args.source.now) (g.S.Source.left c.loop-reply.source) (g.S.Source.left c.next_line.new.source) (g.K.Sink.held c.args.sink.now) (g.K.Sink.held c.loop-reply.sink) c.loop-reply.lines.taken c.loop-reply.stage c.loop-reply.done c.loop-reply.invariant.way bytes told)
     (λ at is.
     let b = c.in_err-line.ensures.large at (input.err_same _ _ is) in
-    stops_large g.B.Banks.log (g.S.Source.left c.args.source.now) (g.S.Source.left c.loop-reply.source) (g.K.Sink.held c.args.sink.now) (g.K.Sink.held c.loop-reply.sink)
-    c.loop-reply.lines.taken c.loop-reply.stage c.loop-reply.done at c.loop-reply.invariant.way b.0 b.1 bytes told)
-    (whole_of_way g.B.Banks.log (AreLeftAmid g.B.Banks.log (banks_of_stage c.loop-reply.stage)) (g.S.Source.left c.args.source.now) (g.S.Source.left c.loop-reply.source) (g.K.Sink.held c.args.sink.now)
-    (g.K.Sink.held c.loop-reply.sink) c.loop-reply.lines.taken c.loop-reply.stage c.loop-reply.done c.loop-reply.invariant.way bytes told
-    (λ rest is. still_left g.B.Banks.log c.loop-reply.stage c.loop-reply.invariant.way.stage (lines_of rest) c.loop-reply.invariant.way.stands)))
+    stops_large g.B.Banks.log (g.S.Source.left c.args.source.now) (g.S.Source.left c.loop-reply.source) (g.S.Source.left c.next_line.new.source) (g.K.Sink.held c.args.sink.now) (g.K.Sink.held c.loop-reply.sink) c.loop-reply.lines.taken c.loop-reply.stage c.loop-reply.done at c.in_err-line.field-0.0 c.loop-reply.invariant.way b.0 b.1
+    c.in_err-line.ensures.broken_off bytes told)
+    (λ read. whole_of_way g.B.Banks.log (AreLeftAmid g.B.Banks.log (banks_of_stage c.loop-reply.stage)) (ReadsToNext bytes (g.S.Source.left c.next_line.new.source)) (g.S.Source.left c.args.source.now) (g.S.Source.left c.loop-reply.source) (g.K.Sink.held c.args.sink.now) (g.K.Sink.held c.loop-reply.sink) c.loop-reply.lines.taken c.loop-reply.stage c.loop-reply.done
+    c.loop-reply.invariant.way bytes told
+    (λ rest is. still_left g.B.Banks.log c.loop-reply.stage c.loop-reply.invariant.way.stage (lines_of rest) c.loop-reply.invariant.way.stands) (inl read)))
 
 pub returns-in_err-line-clause-back : goal.returns-in_err-line-clause-back
 returns-in_err-line-clause-back g c =
@@ -150,7 +152,10 @@ returns-in_err-do_line-clause-ends g c = λ bytes told.
     stops_bad_at g.B.Banks.log (g.S.Source.left c.args.source.now) (g.S.Source.left c.loop-reply.source) (g.S.Source.left c.next_line.new.source)
     (g.K.Sink.held c.args.sink.now) (g.K.Sink.held c.loop-reply.sink) c.loop-reply.lines.taken c.next_line.new.lines.taken c.loop-reply.stage c.loop-reply.done c.in_ok-line.field-0 c.in-Some.line c.as_slice.result.now at
     c.loop-reply.invariant.way c.in-Some.is c.as_slice.ensures c.in_ok-line.ensures.line b.0 b.1 c.do_line.new.stage (c.in_err-do_line.ensures.kept at (err_same _ _ is)) bytes told)
-    (c.in_err-do_line.ensures.left (there g c bytes told).0))
+    (c.in_err-do_line.ensures.left (there g c bytes told).0)
+    (just_more g.B.Banks.log (g.S.Source.left c.args.source.now) (g.S.Source.left c.loop-reply.source) (g.S.Source.left c.next_line.new.source) (g.K.Sink.held c.args.sink.now) (g.K.Sink.held c.loop-reply.sink) c.loop-reply.lines.taken c.next_line.new.lines.taken c.loop-reply.stage c.loop-reply.done c.as_slice.result.now c.loop-reply.invariant.way
+    (takes_some (g.S.Source.left c.loop-reply.source) (g.S.Source.left c.next_line.new.source) c.in_ok-line.field-0 c.loop-reply.lines.taken c.next_line.new.lines.taken c.in-Some.line c.as_slice.result.now
+    c.in-Some.is c.as_slice.ensures c.in_ok-line.ensures.line) bytes told))
 
 pub returns-in_err-do_line-clause-back : goal.returns-in_err-do_line-clause-back
 returns-in_err-do_line-clause-back g c =
@@ -245,6 +250,9 @@ returns-clause-ends g c = λ bytes told.
     c.loop-reply.lines.ended c.loop-reply.invariant.ends c.in_default.is c.in_ok-line.ensures.line c.in_ok-line.ensures.at_end)
     b.0 b.1 c.end_lines.new.stage (c.end_lines.ensures.kept at is) bytes told)
     c.end_lines.ensures.left
+    (just_none g.B.Banks.log (g.S.Source.left c.args.source.now) (g.S.Source.left c.loop-reply.source) (g.S.Source.left c.next_line.new.source) (g.K.Sink.held c.args.sink.now) (g.K.Sink.held c.loop-reply.sink) c.loop-reply.lines.taken c.loop-reply.stage c.loop-reply.done c.loop-reply.invariant.way
+    (end_none (g.S.Source.left c.args.source.now) (g.S.Source.left c.loop-reply.source) (g.S.Source.left c.next_line.new.source) c.in_ok-line.field-0 c.loop-reply.lines.taken c.next_line.new.lines.taken c.loop-reply.done
+    c.loop-reply.lines.ended c.loop-reply.invariant.ends c.in_default.is c.in_ok-line.ensures.line c.in_ok-line.ensures.at_end) bytes told)
 
 pub returns-clause-back : goal.returns-clause-back
 returns-clause-back g c =

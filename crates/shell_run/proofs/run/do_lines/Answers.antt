@@ -1,14 +1,15 @@
-use Rattle.std.proofs.Common.{◌∙◌, refl, sym, ap, arith}
+use Rattle.std.proofs.Common.{◌∙◌, refl, sym, ap, arith, inl}
 use Rattle.mld_io.specs.Disk.{seen}
 use Rattle.shell_session.specs.journal_sides.Pairs.{read_banks}
-use Rattle.input_lines.proofs.TakenLemmas.{end_first, end_more, end_cut, end_none, takes_some, end_of_line, advanced, err_same, read_well}
+use Rattle.input_lines.proofs.HowFarLemmas.{into_first}
+use Rattle.input_lines.proofs.TakenLemmas.{end_first, end_more, end_none, takes_some, end_of_line, advanced, err_same, read_well}
 use Rattle.shell_session.specs.Shells.{found_in}
 use Rattle.shell_session.specs.Sessions.{session_banks}
-use Rattle.shell_run.specs.Inputs.{AreFirstLines, AreAllLines, AreReadLines, AreLinesBefore}
+use Rattle.shell_run.specs.Inputs.{AreAllLines, AreReadLines, AreLinesBefore}
 use Rattle.shell_run.specs.ShellEnds.{between}
 use Rattle.shell_run.proofs.FaultLemmas.{read_rose, write_rose, reading_not_writing, line_not_reading, line_not_writing, writing_not_reading, meters_same, meters_then}
-use Rattle.shell_run.proofs.InputLemmas.{none_taken, one_taken, read_whole, read_short, unsaid_line, unsaid_writing}
-use Rattle.shell_run.proofs.WayLemmas.{way_first, way_more, are_first, are_all, are_read, are_before, stops_between, stops_within, stops_writing, ends_reading, ends_line, ends_writing}
+use Rattle.shell_run.proofs.InputLemmas.{none_taken, one_taken, read_whole, read_short, read_up_to, said_line, said_writing}
+use Rattle.shell_run.proofs.WayLemmas.{way_first, way_more, are_none, are_all, are_read, are_before, stops_between, stops_within, stops_writing, ends_reading, ends_line, ends_writing}
 use Rattle.shell_run.proofs.run.do_lines.Goals as goal
 
 -- ---- there was no room for lines
@@ -17,8 +18,8 @@ pub returns-in-Err-clause-ends : goal.returns-in-Err-clause-ends
 returns-in-Err-clause-ends g c = λ log told.
     let way = way_first g.B.Banks.log c.args.banks c.new-session.result (g.S.Source.left c.args.source.now) (g.K.Sink.held c.args.sink.now) 0 log c.new-session.ensures refl told in
     rw (c.end_run.ensures.fault, c.end_run.ensures.banks ∙ c.into_banks.ensures)
-    (between (stops_between g.B.Banks.log AreFirstLines (found_in (read_banks (seen log))) (g.B.Banks.log c.args.banks) (g.S.Source.left c.args.source.now) (g.S.Source.left c.args.source.now) (g.K.Sink.held c.args.sink.now) (g.K.Sink.held c.args.sink.now) 0 c.new-session.result 0 way
-    (are_first g.B.Banks.log (found_in (read_banks (seen log))) (g.B.Banks.log c.args.banks) (g.S.Source.left c.args.source.now) (g.S.Source.left c.args.source.now) (g.K.Sink.held c.args.sink.now) (g.K.Sink.held c.args.sink.now) 0 c.new-session.result 0 way)))
+    (between (stops_between g.B.Banks.log (AreReadLines (g.S.Source.left c.args.source.now)) (found_in (read_banks (seen log))) (g.B.Banks.log c.args.banks) (g.S.Source.left c.args.source.now) (g.S.Source.left c.args.source.now) (g.K.Sink.held c.args.sink.now) (g.K.Sink.held c.args.sink.now) 0 c.new-session.result 0 way
+    (are_none g.B.Banks.log (found_in (read_banks (seen log))) (g.B.Banks.log c.args.banks) (g.S.Source.left c.args.source.now) (g.K.Sink.held c.args.sink.now) (g.K.Sink.held c.args.sink.now) 0 c.new-session.result way)))
 
 -- ---- the lines go on
 
@@ -83,16 +84,13 @@ pub returns-in-Err-next_line-clause-ends : goal.returns-in-Err-next_line-clause-
 returns-in-Err-next_line-clause-ends g c = λ log told.
     rw (c.end_run-in-Err-next_line.ensures.fault, c.input_fault.ensures, c.end_run-in-Err-next_line.ensures.banks ∙ c.into_banks-in-Err-next_line.ensures)
     (ends_reading c.in-Err-next_line.fault (found_in (read_banks (seen log))) (g.S.Source.left c.next_line.new.source) _
-    (λ is. stops_between g.B.Banks.log (AreReadLines (g.S.Source.left c.next_line.new.source)) (found_in (read_banks (seen log))) (g.B.Banks.log c.args.banks) (g.S.Source.left c.args.source.now) (g.S.Source.left c.loop-line.source) (g.K.Sink.held c.args.sink.now) (g.K.Sink.held c.loop-line.sink) c.loop-line.lines.taken c.loop-line.session c.loop-line.done (c.loop-line.invariant.way log told)
-    (are_read g.B.Banks.log (found_in (read_banks (seen log))) (g.B.Banks.log c.args.banks) (g.S.Source.left c.args.source.now) (g.S.Source.left c.loop-line.source) (g.S.Source.left c.next_line.new.source) (g.K.Sink.held c.args.sink.now) (g.K.Sink.held c.loop-line.sink) c.loop-line.lines.taken c.loop-line.session c.loop-line.done (c.loop-line.invariant.way log told)
-    (c.in-Err-next_line.ensures.broken_off (err_same _ _ is))
-    (end_cut (g.S.Source.left c.args.source.now) (g.S.Source.left c.loop-line.source) (g.S.Source.left c.next_line.new.source) c.loop-line.done c.loop-line.lines.ended c.loop-line.invariant.ends c.in-Err-next_line.ensures.failed (c.in-Err-next_line.ensures.broken_off (err_same _ _ is)))))
+    (λ fits. stops_between g.B.Banks.log (AreReadLines (g.S.Source.left c.next_line.new.source)) (found_in (read_banks (seen log))) (g.B.Banks.log c.args.banks) (g.S.Source.left c.args.source.now) (g.S.Source.left c.loop-line.source) (g.K.Sink.held c.args.sink.now) (g.K.Sink.held c.loop-line.sink) c.loop-line.lines.taken c.loop-line.session c.loop-line.done (c.loop-line.invariant.way log told)
+    (are_read g.B.Banks.log (found_in (read_banks (seen log))) (g.B.Banks.log c.args.banks) (g.S.Source.left c.args.source.now) (g.S.Source.left c.loop-line.source) (g.S.Source.left c.next_line.new.source) (g.K.Sink.held c.args.sink.now) (g.K.Sink.held c.loop-line.sink) c.loop-line.lines.taken c.loop-line.session c.loop-line.done c.loop-line.lines.ended c.in-Err-next_line.fault (c.loop-line.invariant.way log told)
+    c.loop-line.invariant.ends c.in-Err-next_line.ensures.failed c.in-Err-next_line.ensures.broken_off fits))
     (λ at is.
     let large = c.in-Err-next_line.ensures.large at (err_same _ _ is) in
     stops_between g.B.Banks.log (AreLinesBefore at) (found_in (read_banks (seen log))) (g.B.Banks.log c.args.banks) (g.S.Source.left c.args.source.now) (g.S.Source.left c.loop-line.source) (g.K.Sink.held c.args.sink.now) (g.K.Sink.held c.loop-line.sink) c.loop-line.lines.taken c.loop-line.session c.loop-line.done (c.loop-line.invariant.way log told)
-    (are_before g.B.Banks.log (found_in (read_banks (seen log))) (g.B.Banks.log c.args.banks) (g.S.Source.left c.args.source.now) (g.S.Source.left c.loop-line.source) (g.K.Sink.held c.args.sink.now) (g.K.Sink.held c.loop-line.sink) c.loop-line.lines.taken c.loop-line.session c.loop-line.done at (c.loop-line.invariant.way log told) large.0 large.1))
-    (stops_between g.B.Banks.log AreFirstLines (found_in (read_banks (seen log))) (g.B.Banks.log c.args.banks) (g.S.Source.left c.args.source.now) (g.S.Source.left c.loop-line.source) (g.K.Sink.held c.args.sink.now) (g.K.Sink.held c.loop-line.sink) c.loop-line.lines.taken c.loop-line.session c.loop-line.done (c.loop-line.invariant.way log told)
-    (are_first g.B.Banks.log (found_in (read_banks (seen log))) (g.B.Banks.log c.args.banks) (g.S.Source.left c.args.source.now) (g.S.Source.left c.loop-line.source) (g.K.Sink.held c.args.sink.now) (g.K.Sink.held c.loop-line.sink) c.loop-line.lines.taken c.loop-line.session c.loop-line.done (c.loop-line.invariant.way log told))))
+    (are_before g.B.Banks.log (found_in (read_banks (seen log))) (g.B.Banks.log c.args.banks) (g.S.Source.left c.args.source.now) (g.S.Source.left c.loop-line.source) (g.K.Sink.held c.args.sink.now) (g.K.Sink.held c.loop-line.sink) c.loop-line.lines.taken c.loop-line.session c.loop-line.done at (c.loop-line.invariant.way log told) large.0 large.1)))
 
 -- ---- a line was not done
 
@@ -119,7 +117,7 @@ returns-in-Err-write_all-clause-ends g c = λ log told.
 -- ---- how far the source was read
 
 pub returns-in-Err-clause-input : goal.returns-in-Err-clause-input
-returns-in-Err-clause-input g c = λ bytes told. rw c.end_run.ensures.fault tt
+returns-in-Err-clause-input g c = λ bytes told. rw c.end_run.ensures.fault (inl (0, into_first bytes (g.S.Source.left c.args.source.now) told))
 
 pub returns-in-Ok-None-clause-input : goal.returns-in-Ok-None-clause-input
 returns-in-Ok-None-clause-input g c =
@@ -131,19 +129,22 @@ returns-in-Ok-None-clause-input g c =
 pub returns-in-Err-next_line-clause-input : goal.returns-in-Err-next_line-clause-input
 returns-in-Err-next_line-clause-input g c =
     rw (c.end_run-in-Err-next_line.ensures.fault, c.input_fault.ensures)
-    (read_short (g.S.Source.left c.args.source.now) (g.S.Source.left c.loop-line.source) c.loop-line.lines.taken c.loop-line.done c.loop-line.invariant.so_far c.in-Err-next_line.fault (g.S.Source.left c.next_line.new.source)
-    (λ is.
-    let cut = c.in-Err-next_line.ensures.broken_off (err_same _ _ is) in
-    (cut, end_cut (g.S.Source.left c.args.source.now) (g.S.Source.left c.loop-line.source) (g.S.Source.left c.next_line.new.source) c.loop-line.done c.loop-line.lines.ended c.loop-line.invariant.ends c.in-Err-next_line.ensures.failed cut))
-    (λ at is. c.in-Err-next_line.ensures.large at (err_same _ _ is)))
+    (read_short (g.S.Source.left c.args.source.now) (g.S.Source.left c.loop-line.source) c.loop-line.lines.taken c.loop-line.done c.loop-line.invariant.so_far c.in-Err-next_line.fault (g.S.Source.left c.next_line.new.source) c.loop-line.lines.ended
+    c.loop-line.invariant.ends c.in-Err-next_line.ensures.failed c.in-Err-next_line.ensures.broken_off (λ at is. c.in-Err-next_line.ensures.large at (err_same _ _ is)))
 
 pub returns-in-Err-line-clause-input : goal.returns-in-Err-line-clause-input
 returns-in-Err-line-clause-input g c = λ bytes told.
-    rw (c.end_run-in-Err-line.ensures.fault, c.line_fault.ensures) (unsaid_line c.in-Err-line.fault (g.S.Source.left c.next_line.new.source) bytes)
+    rw (c.end_run-in-Err-line.ensures.fault, c.line_fault.ensures)
+    (said_line c.in-Err-line.fault (g.S.Source.left c.next_line.new.source) bytes
+    (read_up_to (g.S.Source.left c.args.source.now) (g.S.Source.left c.loop-line.source) c.loop-line.lines.taken c.loop-line.done c.loop-line.invariant.so_far (g.S.Source.left c.next_line.new.source) c.next_line.new.lines.taken c.in-Ok-Some.line
+    (takes_some (g.S.Source.left c.loop-line.source) (g.S.Source.left c.next_line.new.source) c.in-Ok-Some.field-0 c.loop-line.lines.taken c.next_line.new.lines.taken c.in-Ok-Some.line c.in-Ok-Some.line c.in-Ok-Some.field-0-is refl c.in-Ok-Some.ensures.line) bytes told))
 
 pub returns-in-Err-write_all-clause-input : goal.returns-in-Err-write_all-clause-input
 returns-in-Err-write_all-clause-input g c = λ bytes told.
-    rw (c.end_run-in-Err-write_all.ensures.fault, c.write_fault.ensures) (unsaid_writing c.in-Err-write_all.fault (g.S.Source.left c.next_line.new.source) bytes)
+    rw (c.end_run-in-Err-write_all.ensures.fault, c.write_fault.ensures)
+    (said_writing c.in-Err-write_all.fault (g.S.Source.left c.next_line.new.source) bytes
+    (read_up_to (g.S.Source.left c.args.source.now) (g.S.Source.left c.loop-line.source) c.loop-line.lines.taken c.loop-line.done c.loop-line.invariant.so_far (g.S.Source.left c.next_line.new.source) c.next_line.new.lines.taken c.in-Ok-Some.line
+    (takes_some (g.S.Source.left c.loop-line.source) (g.S.Source.left c.next_line.new.source) c.in-Ok-Some.field-0 c.loop-line.lines.taken c.next_line.new.lines.taken c.in-Ok-Some.line c.in-Ok-Some.line c.in-Ok-Some.field-0-is refl c.in-Ok-Some.ensures.line) bytes told))
 
 -- ---- the counts of faults
 

@@ -2,7 +2,7 @@ use Rattle.std.proofs.Common.{map}
 use Rattle.std.specs.String.{string_bytes}
 use Rattle.shell_run.specs.FolderWords.{AreRefusedWords}
 use Rattle.shell_run.proofs.FaultLemmas.{words_usage}
-use Rattle.shell_run.proofs.InputLemmas.{unsaid_words}
+use Rattle.shell_run.proofs.InputLemmas.{said_words}
 use Rattle.shell_run.proofs.WayLemmas.{not_read}
 use Rattle.shell_run.proofs.run.shell.Goals as goal
 
@@ -15,4 +15,4 @@ returns-in-Err-clause-usage g c =
     rw (c.end_run.ensures.fault, c.words_fault.ensures) (words_usage c.in-Err.fault (AreRefusedWords (map (λ w. string_bytes w) c.args.words.now.items)) c.in-Err.ensures.usage)
 
 pub returns-in-Err-clause-input : goal.returns-in-Err-clause-input
-returns-in-Err-clause-input g c = λ bytes told. rw (c.end_run.ensures.fault, c.words_fault.ensures) (unsaid_words c.in-Err.fault (g.S.Source.left c.args.source.now) bytes)
+returns-in-Err-clause-input g c = λ bytes told. rw (c.end_run.ensures.fault, c.words_fault.ensures) (said_words c.in-Err.fault (g.S.Source.left c.args.source.now) bytes told)
