@@ -7,6 +7,7 @@ use Rattle.mld_ops.specs.declared.messages.Message.{Message}
 use Rattle.mld_ops.specs.declared.messages.Message.TheVariants as kind
 use Rattle.mld_ops.specs.Messages.{MessageValue, CarriesWant, give_value}
 use Rattle.node_model.specs.journal_store.declared.faults.Why.{Why}
+use Rattle.node_model.specs.journal_store.declared.faults.Why.TheVariants as reasons
 use Rattle.mld_model.specs.Local.{LocalClone, joined_clone}
 use Rattle.node_model.specs.clone_parts.KeptSteps.{KeptStep, Created, Forked, appends}
 use Rattle.node_model.specs.clone_parts.declared.answers.Got.{Got}
@@ -15,9 +16,9 @@ use Rattle.node_model.specs.clone_parts.declared.faults.ReceiveFault.{ReceiveFau
 use Rattle.node_model.specs.clone_parts.declared.faults.ReceiveFault.TheVariants as fault
 use Rattle.node_model.specs.clone_core.Banked.{BankedClone, BankedAsker, KeepsClone, head_of}
 use Rattle.node_model.specs.clone_core.CloneCalls.{LocallyReceives, Refuses}
-use Rattle.node_model.specs.clone_core.CloneClosing.{LeavesClone, receive_stop}
+use Rattle.node_model.specs.clone_core.CloneClosing.{LeavesClone, ShutsClone, receive_stop}
 use Rattle.node_model.specs.clone_core.Due.{IsDueMessage, IsSwapDue, IsMessageSpent}
-use Rattle.node_model.specs.clone_core.DurableCalls.{Changes, MessageSteps, ReceivedSteps, WouldReceive, merged_steps, Creates}
+use Rattle.node_model.specs.clone_core.DurableCalls.{Changes, LeavesFronts, MessageSteps, ReceivedSteps, WouldReceive, merged_steps, Creates}
 use Rattle.node_model.specs.clone_core.Joining.{IsGiveFor}
 use Rattle.node_model.specs.clone_core.Merging.{StaysOpenBy}
 use Rattle.node_model.specs.shell_session.Shells.{generation_after}
@@ -34,7 +35,7 @@ use Rattle.node_model.specs.declared.connections.Connection.{Connection}
 use Rattle.node_model.specs.Exchanges.{ExchangeValue, saying, telling, telling_peers_each}
 use Rattle.node_model.specs.Keepers.{Keeper, Lives, Asks, keeper_found, keeper_domain, carried}
 use Rattle.node_model.specs.Requests.{AnswersRequest, TakesRequest}
-use Rattle.node_model.specs.NodeMessages.{StaysAsItIs, HasReceived, LiveReceives, AskerReceives, joins, adopted_clone, sending_for}
+use Rattle.node_model.specs.NodeMessages.{StaysAsItIs, HasGenerationFor, HasReceived, LiveReceives, AskerReceives, joins, adopted_clone, sending_for}
 use Rattle.node_model.proofs.StepLaws.{appended_generation}
 use Rattle.node_core.specs.declared.faults.NodeFault.{NodeFault}
 use Rattle.node_core.specs.declared.faults.NodeFault.TheVariants.{NoMemory}
@@ -42,7 +43,7 @@ use Rattle.node_core.specs.declared.states.NodeState.{NodeState}
 use Rattle.node_core.specs.declared.states.NodeState.TheVariants as states
 use Rattle.node_core.specs.NodeStates.{state_banks, state_banks_after, StateFailsOnDevice}
 use Rattle.node_core.specs.LoanCalls.{GoesBy, GreetsClient, Replies, AppendsBehind, told_by, MayAnswer, MayBeSent, CarryTaken, HasSent}
-use Rattle.node_core.specs.NodeDeeds.{NodeDoesBy, ReceivesOn, IsDueByMessage}
+use Rattle.node_core.specs.NodeDeeds.{NodeDoesBy, ReceivesOn, HasToMake, IsDueOfLive, IsDueByMessage}
 use Rattle.node_model.proofs.of_shell_session.Moments.{same_front, fronts, made_front}
 use Rattle.node_core.proofs.Moments.{kept_images}
 use Rattle.node_core.proofs.CommandLaws.{carried_appends, carried_behind, none_lost, command_due, command_carried, command_behind, text_has_byte}
@@ -172,54 +173,91 @@ takes_request keeper one line before request number middle after spells greets s
 
 module _ {B : Type 0} (log : B → Option Log) (meter : B → Meter) (old new : BankedClone B) where
   -- what is known once a message was received so, by these durable steps
-  pub record ReceivedSo (sent : Message) (answer : Got) (steps : List KeptStep) : Type 0 where
+  pub record ReceivedSo (answer : Got) (steps : List KeptStep) : Type 0 where
     pub opened : new.closed ≡ None
     pub counts : new.generation ≡ generation_after steps old.generation
     pub carry : CarryTaken answer (length old.local.entries) new.local.entries steps
     pub may : MayAnswer answer (length old.local.entries) new.local.entries
-    pub due : (steps ≡ []) ⊎ WouldReceive old.local sent steps
 
   counts_so : (steps made : List KeptStep) → steps ≡ made → new.generation ≡ generation_after made old.generation
       → new.generation ≡ generation_after steps old.generation
   counts_so steps made same counts = counts ∙ sym (ap (λ (s : List KeptStep). generation_after s old.generation) same)
 
   pub received_so : (sent : Message) (answer : Got) (steps : List KeptStep) → LocallyReceives old.local sent answer new.local
-      → ReceivedSteps sent answer old.local new.local steps → StaysOpenBy old new answer → ReceivedSo sent answer steps
+      → ReceivedSteps sent answer old.local new.local steps → StaysOpenBy old new answer → ReceivedSo answer steps
   received_so (kind.Range entry) got.Known steps received made stays =
-      record { opened = stays.opened; counts = counts_so steps [] made stays.generation; carry = tt; may = tt; due = inl made }
+      record { opened = stays.opened; counts = counts_so steps [] made stays.generation; carry = tt; may = tt }
   received_so (kind.Range entry) (got.Took ranges) steps received made stays = record {
     opened = stays.opened;
     counts = counts_so steps (appends made.0) made.2 (stays.generation ∙ sym (appended_generation made.0 old.generation));
     carry = carried_behind old.local.entries new.local.entries made.0 steps made.1 made.2;
     may = none_lost old.local.entries new.local.entries made.0 made.1;
-    due = inr (new.local, ranges, received.1, made);
   }
   received_so (kind.Range entry) got.Held steps received made stays =
-      record { opened = stays.opened; counts = counts_so steps [] made stays.generation; carry = tt; may = tt; due = inl made }
+      record { opened = stays.opened; counts = counts_so steps [] made stays.generation; carry = tt; may = tt }
   received_so (kind.Range entry) answer steps received made stays = absurd received.1
   received_so (kind.JoinAsk id) got.Ignored steps received made stays =
-      record { opened = stays.opened; counts = counts_so steps [] made stays.generation; carry = tt; may = tt; due = inl made }
+      record { opened = stays.opened; counts = counts_so steps [] made stays.generation; carry = tt; may = tt }
   received_so (kind.JoinAsk id) (got.Answer messages) steps received made stays =
-      record { opened = stays.opened; counts = counts_so steps (Forked ∷ []) made stays.generation; carry = tt; may = tt; due = inr made }
+      record { opened = stays.opened; counts = counts_so steps (Forked ∷ []) made stays.generation; carry = tt; may = tt }
   received_so (kind.JoinAsk id) answer steps received made stays = absurd received
   received_so (kind.Want clock) got.Nothing steps received made stays =
-      record { opened = stays.opened; counts = counts_so steps [] made stays.generation; carry = tt; may = tt; due = inl made }
+      record { opened = stays.opened; counts = counts_so steps [] made stays.generation; carry = tt; may = tt }
   received_so (kind.Want clock) (got.Answer messages) steps received made stays =
-      record { opened = stays.opened; counts = counts_so steps [] made stays.generation; carry = tt; may = tt; due = inl made }
+      record { opened = stays.opened; counts = counts_so steps [] made stays.generation; carry = tt; may = tt }
   received_so (kind.Want clock) answer steps received made stays = absurd received
   received_so (kind.Snapshot snapshot) got.Known steps received made stays =
-      record { opened = stays.opened; counts = counts_so steps [] made stays.generation; carry = tt; may = tt; due = inl made }
+      record { opened = stays.opened; counts = counts_so steps [] made stays.generation; carry = tt; may = tt }
   received_so (kind.Snapshot snapshot) (got.Merged ranges) steps received made stays = record {
     opened = stays.opened;
     counts = counts_so steps (merged_steps new.local) made (stays.generation ∙ sym (appended_generation new.local.entries (old.generation + 1)));
     carry = ap carried made ∙ carried_appends new.local.entries;
     may = tt;
-    due = inr (new.local, ranges, received.1, made);
   }
   received_so (kind.Snapshot snapshot) answer steps received made stays = absurd received.1
   received_so (kind.JoinGive give) got.Ignored steps received made stays =
-      record { opened = stays.opened; counts = counts_so steps [] made stays.generation; carry = tt; may = tt; due = inl made }
+      record { opened = stays.opened; counts = counts_so steps [] made stays.generation; carry = tt; may = tt }
   received_so (kind.JoinGive give) answer steps received made stays = absurd cc
+
+  -- ---- what was due
+
+  -- what the call says of the last generation
+  abbrev pub SpentBy : Message → Result Got ReceiveFault → Type 0
+  SpentBy sent result = IsErrOf result fault.GenerationsSpent ↔ (IsMessageSpent old sent × ¬ IsErrOf result fault.NoMemory)
+
+  -- a generation was left for a merge
+  left_for : (sent : Message) (answer : Got) → old.closed ≡ None → LocallyReceives old.local sent answer new.local → SpentBy sent (Ok answer)
+      → HasGenerationFor answer old.generation
+  left_for (kind.Range entry) (got.Merged ranges) is_open received spent = absurd received.1
+  left_for (kind.JoinAsk id) (got.Merged ranges) is_open received spent = absurd received
+  left_for (kind.Want clock) (got.Merged ranges) is_open received spent = absurd received
+  left_for (kind.Snapshot snapshot) (got.Merged ranges) is_open received spent = λ last.
+      let refused = spent.1 (record { opened = is_open; due = record { own = received.0; lacks = received.1.lacks }; last = last }, λ same. absurd (cc (same))) in
+      absurd (cc (refused))
+  left_for (kind.JoinGive give) (got.Merged ranges) is_open received spent = absurd (cc (received.0))
+  left_for sent answer is_open received spent = tt
+
+  -- what was made was due
+  made_due : (sent : Message) (answer : Got) (steps : List KeptStep) → old.closed ≡ None → LocallyReceives old.local sent answer new.local
+      → ReceivedSteps sent answer old.local new.local steps → SpentBy sent (Ok answer) → (steps ≡ []) ⊎ IsDueOfLive old.generation old.local sent steps
+  made_due (kind.Range entry) (got.Took ranges) steps is_open received made spent =
+      inr (record { has = record { own = received.0; ready = received.1.ready }; would = (new.local, ranges, received.1, made) })
+  made_due (kind.JoinAsk id) (got.Answer messages) steps is_open received made spent =
+      inr (record { has = record { other = received.0; room = received.1.2.room }; would = made })
+  made_due (kind.Snapshot snapshot) (got.Merged ranges) steps is_open received made spent =
+      inr (record {
+        has = (record { own = received.0; lacks = received.1.lacks }, left_for (kind.Snapshot snapshot) (got.Merged ranges) is_open received spent);
+        would = (new.local, ranges, received.1, made);
+      })
+  made_due sent answer steps is_open received made spent = inl made
+
+  -- and what the banks had to do
+  has_to : (sent : Message) → IsDueMessage old sent → HasToMake old.generation old.local sent
+  has_to (kind.Range entry) due = due
+  has_to (kind.JoinAsk id) due = due
+  has_to (kind.Snapshot snapshot) due = (due.due, due.left)
+  has_to (kind.Want clock) due = absurd due
+  has_to (kind.JoinGive give) due = absurd due
 
   -- no generation was left
   spent_last : (sent : Message) → IsMessageSpent old sent → IsLast old.generation
@@ -235,7 +273,7 @@ module _ {B : Type 0} (log : B → Option Log) (meter : B → Meter) (old new : 
     Stays result = IfOk result (StaysOpenBy old new)
 
     abbrev pub Spent : Result Got ReceiveFault → Type 0
-    Spent result = IsErrOf result fault.GenerationsSpent ↔ (IsMessageSpent old sent × ¬ IsErrOf result fault.NoMemory)
+    Spent result = SpentBy sent result
 
     abbrev pub Closes : Result Got ReceiveFault → Type 0
     Closes result = (why : Why) → IsErrOf result (fault.Closed why) ↔ (old.closed ≡ Some why)
@@ -297,7 +335,7 @@ module _ {B : Type 0} (log : B → Option Log) (meter : B → Meter) (old new : 
             does = record {
               result = Ok answer;
               new = new.local;
-              received = (received, durable.1);
+              received = (received, durable.1, left_for sent answer is_open received spent);
               becomes = ap (λ (n : ℕ). Lives n new.local) so.counts;
               sends = has_sent durable.0 so.carry;
             };
@@ -321,19 +359,30 @@ module _ {B : Type 0} (log : B → Option Log) (meter : B → Meter) (old new : 
     left_stops : (Due : List KeptStep → Type 0) → new ≡ old → CloneLeavesFrontOfDue log meter Due old new.banks
     left_stops Due same = record { steps = []; due = inl refl; moments = ap (λ (clone : BankedClone B). clone.banks) same }
 
-    pub receive_stops : (result : Result Got ReceiveFault) → old.closed ≡ None → Received result → Stays result → Closes result → Left result → Durable result
-        → CloneLeavesFrontOfDue log meter (WouldReceive old.local sent) old new.banks
-    receive_stops (Ok answer) is_open received stays closes left durable =
-        record { steps = durable.0; due = (received_so sent answer durable.0 received durable.1 stays).due; moments = durable.2.moments }
-    receive_stops (Err (fault.ForeignTick said own)) is_open received stays closes left durable = left_stops (WouldReceive old.local sent) left
-    receive_stops (Err fault.HeldFull) is_open received stays closes left durable = left_stops (WouldReceive old.local sent) left
-    receive_stops (Err fault.Deep) is_open received stays closes left durable = left_stops (WouldReceive old.local sent) left
-    receive_stops (Err fault.GenerationsSpent) is_open received stays closes left durable = left_stops (WouldReceive old.local sent) left
-    receive_stops (Err (fault.Closed why)) is_open received stays closes left durable = left_stops (WouldReceive old.local sent) left
-    receive_stops (Err fault.Device) is_open received stays closes left durable =
-        record { steps = durable.0; due = inr durable.1; moments = durable.2.moments }
-    receive_stops (Err fault.NoMemory) is_open received stays closes left durable =
-        record { steps = durable.0; due = durable.1; moments = durable.2.moments }
+    -- for want of memory
+    memory_stops : (steps : List KeptStep) → (new ≡ old) ⊎ ShutsClone log meter (IsDueMessage old sent) (IsSwapDue sent) old reasons.NoMemory new
+        → (steps ≡ []) ⊎ WouldReceive old.local sent steps → LeavesFronts log meter steps old new.banks
+        → CloneLeavesFrontOfDue log meter (IsDueByMessage (Lives old.generation old.local) sent) old new.banks
+    memory_stops steps (inl same) would moments = left_stops (IsDueByMessage (Lives old.generation old.local) sent) same
+    memory_stops steps (inr shuts) would moments = record {
+      steps = steps;
+      due = due_so log meter old (WouldReceive old.local sent) (IsDueByMessage (Lives old.generation old.local) sent)
+          (λ made would_make. record { has = has_to sent shuts.due; would = would_make }) steps would;
+      moments = moments;
+    }
+
+    pub receive_stops : (result : Result Got ReceiveFault) → old.closed ≡ None → Received result → Spent result → Left result → Durable result
+        → CloneLeavesFrontOfDue log meter (IsDueByMessage (Lives old.generation old.local) sent) old new.banks
+    receive_stops (Ok answer) is_open received spent left durable =
+        record { steps = durable.0; due = made_due sent answer durable.0 is_open received durable.1 spent; moments = durable.2.moments }
+    receive_stops (Err (fault.ForeignTick said own)) is_open received spent left durable = left_stops (IsDueByMessage (Lives old.generation old.local) sent) left
+    receive_stops (Err fault.HeldFull) is_open received spent left durable = left_stops (IsDueByMessage (Lives old.generation old.local) sent) left
+    receive_stops (Err fault.Deep) is_open received spent left durable = left_stops (IsDueByMessage (Lives old.generation old.local) sent) left
+    receive_stops (Err fault.GenerationsSpent) is_open received spent left durable = left_stops (IsDueByMessage (Lives old.generation old.local) sent) left
+    receive_stops (Err (fault.Closed why)) is_open received spent left durable = left_stops (IsDueByMessage (Lives old.generation old.local) sent) left
+    receive_stops (Err fault.Device) is_open received spent left durable =
+        record { steps = durable.0; due = inr (record { has = has_to sent left.due; would = durable.1 }); moments = durable.2.moments }
+    receive_stops (Err fault.NoMemory) is_open received spent left durable = memory_stops durable.0 left durable.1 durable.2.moments
 
 -- ---- messages to one who asks
 

@@ -64,10 +64,6 @@ pub(crate) fn take_frames<R: Threads + Sync, B: Banks>(
 }
 
 /// Takes a frame that came on a connection, which is at hand then, if it isn't refused.
-///
-/// # Errors
-///
-/// `Device` where the device failed, and `NoMemory`. The banks are given back.
 fn take_frame<R: Threads + Sync, B: Banks>(
     rt: &R,
     alloc: Global,
@@ -124,10 +120,6 @@ fn greet<B: Banks>(
 }
 
 /// Takes a request, of a connection that is no peer's.
-///
-/// # Errors
-///
-/// `Device` where the device failed, and `NoMemory`. The banks are given back.
 fn take_request<R: Threads + Sync, B: Banks>(
     rt: &R,
     alloc: Global,
@@ -152,10 +144,6 @@ fn take_request<R: Threads + Sync, B: Banks>(
 }
 
 /// Takes a part of a message, of a peer. A message that is whole then is received.
-///
-/// # Errors
-///
-/// `Device` where the device failed, and `NoMemory`. The banks are given back.
 fn take_part<R: Threads + Sync, B: Banks>(
     rt: &R,
     alloc: Global,

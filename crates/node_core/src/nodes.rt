@@ -121,10 +121,6 @@ fn going_on<B: Banks>(taken: Taken<B>) -> (Node<B>, Vec<Sent>)
 }
 
 /// Does an event.
-///
-/// # Errors
-///
-/// `Device` where the device failed, and `NoMemory`. The banks are given back.
 fn do_event<R: Threads + Sync, B: Banks>(
     rt: &R,
     alloc: Global,
@@ -213,10 +209,6 @@ fn fresh(alloc: Global, number: u32) -> Connection
 }
 
 /// A piece came on a connection. Where it isn't known nothing changes.
-///
-/// # Errors
-///
-/// `Device` where the device failed, and `NoMemory`. The banks are given back.
 fn read<R: Threads + Sync, B: Banks>(
     rt: &R,
     alloc: Global,

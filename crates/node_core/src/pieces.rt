@@ -66,10 +66,6 @@ pub(crate) fn take_piece<R: Threads + Sync, B: Banks>(
 }
 
 /// Takes frames that came on the connection at hand, and the fault behind them.
-///
-/// # Errors
-///
-/// `Device` where the device failed, and `NoMemory`. The banks are given back.
 fn take_fed<R: Threads + Sync, B: Banks>(
     rt: &R,
     alloc: Global,

@@ -31,17 +31,9 @@ pub(crate) fn greet_client(exchange: &mut Exchange) -> u32
 fn client(one: Connection) -> Connection
     ensures { result ≡ as_client one }
 {
-    let Connection {
-        number,
-        frames,
-        sends,
-        ..
-    } = one;
     Connection {
-        number,
-        frames,
         role: Role::Client,
-        sends,
+        ..one
     }
 }
 

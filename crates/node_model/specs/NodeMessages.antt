@@ -27,9 +27,15 @@ pub record StaysAsItIs (Cause : Type 0) (clone : LocalClone) (steps : List KeptS
   pub none : steps ≡ []
   pub same : new ≡ clone
 
+-- a snapshot that was merged took a swap, for which a generation was left
+abbrev pub HasGenerationFor : Got → ℕ → Type 0
+HasGenerationFor (got.Merged ranges) generation = ¬ IsLast generation
+HasGenerationFor answer generation = Unit {0}
+
 -- what became of a message that came to a live clone, at this generation: it was received, with its durable steps; or it was refused
 abbrev pub HasReceived : ℕ → LocalClone → Message → Result Got ReceiveFault → List KeptStep → LocalClone → Type 0
-HasReceived generation clone message (Ok answer) steps new = LocallyReceives clone message answer new × ReceivedSteps message answer clone new steps
+HasReceived generation clone message (Ok answer) steps new =
+    LocallyReceives clone message answer new × ReceivedSteps message answer clone new steps × HasGenerationFor answer generation
 HasReceived generation clone message (Err (fault.ForeignTick said own)) steps new =
     StaysAsItIs (Refuses clone message (fault.ForeignTick said own)) clone steps new
 HasReceived generation clone message (Err fault.HeldFull) steps new = StaysAsItIs (Refuses clone message fault.HeldFull) clone steps new

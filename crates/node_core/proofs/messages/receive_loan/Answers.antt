@@ -31,7 +31,7 @@ returns-clause-stopped g c =
     let e = c.receive-answered.ensures in
     on_err c.send_for.result
     (receive_stops g.B.Banks.log g.B.Banks.meter c.args.clone.now c.receive-answered.new.self c.args.message.now c.receive-answered.result c.requires.opened
-    e.ok e.opened e.closed e.left e.durable)
+    e.ok e.spent e.left e.durable)
 
 pub returns-clause-fault : goal.returns-clause-fault
 returns-clause-fault g c =
