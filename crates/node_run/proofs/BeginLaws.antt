@@ -1,7 +1,7 @@
 -- What mounts and makings of clones tell is how a node begins.
 use Rattle.std.proofs.Common.{◌≡◌, ℕ, true, false, List, [], ◌∷◌, Option, None, Some, IfOk, IfErr, Result, Ok, Err, inl, inr, refl, sym, ◌∙◌, ap, subst}
 use Rattle.mld_io.specs.Arm.{Meter, Metered}
-use Rattle.mld_io.specs.Disk.{Log, Sides, seen}
+use Rattle.mld_io.specs.Disk.{Log, Sides, seen, MayLeave, IsSettled}
 use Rattle.rdf_terms.specs.Order.{iri_cmp}
 use Rattle.mld_ops.specs.Properties.{AreKept}
 use Rattle.mld_ops.proofs.AscendingLaws.{same_ascending}
@@ -39,6 +39,13 @@ use Rattle.node_run.specs.NodeBegun.{BeginsOn, FallsShort, BeginsShort, IsOfWord
 use Rattle.node_core.proofs.of_shell_session.MeterLaws.{meters_of, meters_as}
 use Rattle.node_run.proofs.FrontLaws.{leaves_first}
 
+-- what reads give is found, whatever a crash now leaves
+settled_images : (found : FoundOnBanks) (log : Log) (now : Option Log) → now ≡ Some log → IsSettled log → found_in (read_banks (seen log)) ≡ found → ImagesFind found now
+settled_images found log now is settled finds other told image left =
+    let same : other ≡ log = cc (told, is) in
+    let at : image ≡ seen log = settled image (subst (λ (l : Log). MayLeave l image) same left) in
+    ap (λ (sides : Sides). found_in (read_banks sides)) at ∙ finds
+
 -- ---- banks that were mounted
 
 module _ {B : Type 0} (log : B → Option Log) (words : NodeWords) (banks mid : B) (mounts : (l : Log) → log banks ≡ Some l → LeavesNothingNew l (log mid)) (first : Log)
@@ -52,6 +59,11 @@ module _ {B : Type 0} (log : B → Option Log) (words : NodeWords) (banks mid : 
   }
 
   -- also on what a crash leaves
+  always : (found : FoundOnBanks) → found_on first ≡ found → IsSynced (Unit {0}) first (log mid) → ImagesFind found (log mid)
+  always found same synced =
+      settled_images found synced.log (log mid) synced.now_is (synced.settled tt) (ap (λ (sides : Sides). found_in (read_banks sides)) synced.same ∙ same)
+
+  -- as on what it left before
   later : (found : FoundOnBanks) → ImagesFind found (log banks) → ImagesFind found (log mid)
   later found = images_later found (log banks) (log mid) first told (mounts first told)
 
@@ -72,7 +84,7 @@ module _ {B : Type 0} (log : B → Option Log) (words : NodeWords) (banks mid : 
             (record { head_is = refl; entries_are = refl; held = runs.held; local = runs.local }) is_of.0 is_of.1;
         keeps = subst (λ (b : B). HasFound found (log b)) (sym same) (still found is synced);
         moments = subst P (sym same) (no_more_front found [] (log banks) (log mid) mounts);
-        settled = subst (λ (b : B). ImagesFind found (log banks) → ImagesFind found (log b)) (sym same) (later found);
+        settled = subst (λ (b : B). ImagesFind found (log b)) (sym same) (always found is synced);
       } in
       subst (λ (f : FoundOnBanks). BeginsOn log words f (log banks) (states.Live clone)) (sym is) begun
 
@@ -81,13 +93,23 @@ module _ {B : Type 0} (log : B → Option Log) (words : NodeWords) (banks mid : 
       → BeginsShort stops.OtherClone words (found_on first) (log banks) (log mid)
   finds_other clone at synced other =
       let is : found_on first ≡ found_with clone.generation clone.local = ap found_in at.reads in
-      record { so = subst (λ (f : FoundOnBanks). IsOther words f) (sym is) other; keeps = still (found_on first) refl synced; leaves = none_done (found_on first) }
+      record {
+        so = subst (λ (f : FoundOnBanks). IsOther words f) (sym is) other;
+        keeps = still (found_on first) refl synced;
+        images = always (found_on first) refl synced;
+        leaves = none_done (found_on first);
+      }
 
   -- they were not mounted
   not_mounted : (fault : MountFault) → TellsClone (Refused fault mid) (read_banks (seen first)) → IsSynced (SyncsBoth (Refused fault mid)) first (log mid)
       → BeginsShort (stop_of_mount fault) words (found_on first) (log banks) (log mid)
   not_mounted (mount.Damaged side place) tells synced =
-      record { so = ap found_in tells; keeps = still (found_on first) refl synced; leaves = none_done (found_on first) }
+      record {
+        so = ap found_in tells;
+        keeps = still (found_on first) refl synced;
+        images = always (found_on first) refl synced;
+        leaves = none_done (found_on first);
+      }
   not_mounted mount.Device tells synced = record { due = []; is_due = inl refl; leaves = none_done (found_on first) }
   not_mounted mount.NoMemory tells synced = record { due = []; is_due = inl refl; leaves = none_done (found_on first) }
 
@@ -102,7 +124,7 @@ module _ {B : Type 0} (log : B → Option Log) (words : NodeWords) (banks mid : 
         begins = begun.begins;
         keeps = begun.keeps;
         moments = later_front Nothing begun.first (log banks) (log mid) (log (state_banks state)) mounts (later Nothing) begun.moments;
-        settled = λ alike. begun.settled (later Nothing alike);
+        settled = begun.settled;
       } in
       subst (λ (f : FoundOnBanks). BeginsOn log words f (log banks) state) (sym is) then
 
@@ -115,8 +137,10 @@ module _ {B : Type 0} (log : B → Option Log) (words : NodeWords) (banks mid : 
   short_then : (stop : NodeStop) (found : FoundOnBanks) (now : Option Log) → BeginsShort stop words found (log mid) now → BeginsShort stop words found (log banks) now
   short_then stops.NoMemory found now short = record { due = short.due; is_due = short.is_due; leaves = leaves_then found short.due now short.leaves }
   short_then stops.Device found now short = record { due = short.due; is_due = short.is_due; leaves = leaves_then found short.due now short.leaves }
-  short_then (stops.Damaged side place) found now short = record { so = short.so; keeps = short.keeps; leaves = leaves_then found [] now short.leaves }
-  short_then stops.OtherClone found now short = record { so = short.so; keeps = short.keeps; leaves = leaves_then found [] now short.leaves }
+  short_then (stops.Damaged side place) found now short =
+      record { so = short.so; keeps = short.keeps; images = short.images; leaves = leaves_then found [] now short.leaves }
+  short_then stops.OtherClone found now short =
+      record { so = short.so; keeps = short.keeps; images = short.images; leaves = leaves_then found [] now short.leaves }
   short_then stop found now short = absurd short
 
   short_on : (stop : NodeStop) (now : Option Log) → read_banks (seen first) ≡ KeepsNone → BeginsShort stop words Nothing (log mid) now
@@ -196,7 +220,8 @@ module _ {B : Type 0} (log : B → Option Log) (meter : B → Meter) (words : No
         begins = subst (λ (a : LocalAsker). Begins words Nothing [] (Asks a)) is (asks role asker.asker.properties kept);
         keeps = subst (λ (b : B). HasFound Nothing (log b)) (sym same) (record { log = l; now_is = told; finds = ap found_in nothing.none });
         moments = same_front Nothing [] (log blank) (log asker.banks) (ap log same);
-        settled = subst (λ (b : B). ImagesFind Nothing (log blank) → ImagesFind Nothing (log b)) (sym same) (λ alike. alike);
+        settled = subst (λ (b : B). ImagesFind Nothing (log b)) (sym same)
+            (settled_images Nothing l (log blank) told nothing.settled (ap found_in nothing.none));
       }
 
   -- a clone is made
@@ -216,7 +241,7 @@ module _ {B : Type 0} (log : B → Option Log) (meter : B → Meter) (words : No
         begins = subst (λ (k : Keeper). Begins words Nothing (Created (head_of made) ∷ []) k) (λ i. Lives (sym generation i) (sym is i)) (founds role kept each);
         keeps = record { log = has.log; now_is = has.now_is; finds = ap found_in has.keeps.1.reads };
         moments = made_front log meter (Created (head_of made) ∷ []) blank clone.banks creates.moments;
-        settled = λ alike. kept_images clone.local clone.generation (log clone.banks) has;
+        settled = kept_images clone.local clone.generation (log clone.banks) has;
       }
 
   -- or it wasn't

@@ -11,21 +11,21 @@ use Rattle.node_core.specs.shell_session.RunEnds.{LeavesDone}
 -- Steps were done, which led to this: so is a front of more of them.
 module _ (found middle : FoundOnBanks) (steps : List KeptStep) (led : middle ≡ found_after steps found) where
   -- no step is under way
-  pub leaves_done : (old now : Option Log) → LeavesFront found steps old now → (ImagesFind found old → ImagesFind middle now) → LeavesDone found steps [] old now
+  pub leaves_done : (old now : Option Log) → LeavesFront found steps old now → ImagesFind middle now → LeavesDone found steps [] old now
   leaves_done old now moments settled = record {
     moments = subst (λ (s : List KeptStep). LeavesFront found s old now) (sym (append-nil steps)) moments;
-    settled = λ images log told image left. record { front = []; rest = []; whole = refl; finds = settled images log told image left ∙ led };
+    settled = λ images log told image left. record { front = []; rest = []; whole = refl; finds = settled log told image left ∙ led };
   }
 
   -- some are
   pub leaves_due : (due : List KeptStep) (old now after : Option Log) (first : Log) → old ≡ Some first → LeavesFront found steps old now
-      → (ImagesFind found old → ImagesFind middle now) → LeavesFront middle due now after → LeavesDone found steps due old after
+      → ImagesFind middle now → LeavesFront middle due now after → LeavesDone found steps due old after
   leaves_due due old now after first told moments settled later = record {
-    moments = moments_then found middle steps due old now after led moments settled later;
+    moments = moments_then found middle steps due old now after led moments (λ images. settled) later;
     settled = λ images log is image left.
         let one : LeavesMeanwhile first now (λ calls sides. FindsFront found steps sides) = moments first told images in
         let two : LeavesMeanwhile (grown_by one.added first) after (λ calls sides. FindsFront middle due sides) =
-        later (grown_by one.added first) one.now_is (settled images) in
+        later (grown_by one.added first) one.now_is settled in
         let last : LeavesOnly (grown_by two.added (grown_by one.added first)) (λ sides. FindsFront middle due sides) =
         AtEachMoment-last (grown_by one.added first) two.added (λ calls sides. FindsFront middle due sides) two.each in
         let same : log ≡ grown_by two.added (grown_by one.added first) = cc (is, two.now_is) in

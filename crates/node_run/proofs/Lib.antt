@@ -1,4 +1,5 @@
 mod FrontLaws
+mod OrderLaws
 mod LogLaws
 mod CountLaws
 mod TurnLaws

@@ -46,9 +46,9 @@ short_ends stops.Device words found texts before old now are short = at_first (r
   leaves = short.leaves;
 })
 short_ends (stops.Damaged side place) words found texts before old now are short =
-    record { words = words; are = are; so = short.so; nothing = record { none = refl; silent = refl }; keeps = short.keeps; leaves = short.leaves }
+    record { words = words; are = are; so = short.so; nothing = record { none = refl; silent = refl }; keeps = short.keeps; images = short.images; leaves = short.leaves }
 short_ends stops.OtherClone words found texts before old now are short =
-    record { words = words; are = are; so = short.so; nothing = record { none = refl; silent = refl }; keeps = short.keeps; leaves = short.leaves }
+    record { words = words; are = are; so = short.so; nothing = record { none = refl; silent = refl }; keeps = short.keeps; images = short.images; leaves = short.leaves }
 short_ends stop words found texts before old now are short = absurd short
 
 -- where the words were read, usage is not told

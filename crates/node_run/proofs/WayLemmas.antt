@@ -3,13 +3,13 @@ use Rattle.std.proofs.Common.{◌≡◌, ◌⊎◌, ℕ, zero, suc, ◌+◌, ◌
 use Rattle.std.specs.Prelude.{option_map, unwrap_or}
 use Rattle.mld_io.specs.declared.events.Event.{Event}
 use Rattle.mld_io.specs.declared.events.WireCall.TheVariants.{Took}
-use Rattle.mld_io.specs.Disk.{Log}
+use Rattle.mld_io.specs.Disk.{Log, LeavesMeanwhile, grown_by}
 use Rattle.mld_io.specs.Wires.{WireLog}
 use Rattle.node_core.specs.journal_store.Closing.{StaysTold}
 use Rattle.node_core.specs.clone_parts.KeptSteps.{KeptStep}
 use Rattle.node_core.specs.shell_session.Shells.{FoundOnBanks, Stored, found_after}
 use Rattle.node_core.proofs.of_shell_session.RunLaws.{found_both}
-use Rattle.node_core.specs.shell_session.SessionLines.{ImagesFind, LeavesFront}
+use Rattle.node_core.specs.shell_session.SessionLines.{ImagesFind, FindsFront, LeavesFront}
 use Rattle.node_run.specs.declared.node.NodeWords.{NodeWords}
 use Rattle.node_run.specs.Words.{AreWords}
 use Rattle.node_core.specs.node_model.declared.connections.Sent.{Sent}
@@ -20,11 +20,12 @@ use Rattle.node_core.specs.node_model.Events.{NodeValue, NodeStep, NodeRuns, log
 use Rattle.node_core.specs.node_model.NodeLaws.{NodeStepsLead}
 use Rattle.node_core.specs.NodeStates.{FindsNow}
 use Rattle.node_core.specs.Nodes.{BankedNode, node_value, node_banks}
-use Rattle.node_core.specs.NodeEvents.{IsDueByEvent}
+use Rattle.node_core.specs.NodeEvents.{DoesEvent, IsDueByEvent}
 use Rattle.node_run.specs.declared.stops.NodeStop.{NodeStop}
 use Rattle.node_run.specs.declared.stops.NodeStop.TheVariants as stops
 use Rattle.node_run.specs.Start.{Begins, founds, asks, runs_again, fresh_node}
 use Rattle.node_run.specs.NodeBegun.{BeginsOn}
+use Rattle.node_run.specs.ServiceOrder.{ServiceMoment, HasToSend, GoesTo, is_there}
 use Rattle.node_run.specs.ServiceEnds.{EventsDone, durable_steps_of, StopsBetweenEvents, StopsWithinEvent, StopsSending, Waits, between, sending, within, on_banks, on_wire, ServiceEnds}
 use Rattle.node_run.specs.ServiceStatuses.{stop_of_wire}
 use Rattle.node_run.specs.ServiceUnderWay.{IsServiceUnderWay, DoesTurn, StopsTurn, StopsWithinTurn, StopsSendingTurn}
@@ -33,6 +34,7 @@ use Rattle.mld_io.specs.declared.faults.IoFault.TheVariants as io
 use Rattle.node_core.proofs.of_shell_session.FrontLaws.{moments_then}
 use Rattle.node_run.proofs.FrontLaws.{leaves_done, leaves_due}
 use Rattle.node_run.proofs.LogLaws.{logged_then}
+use Rattle.node_run.proofs.OrderLaws.{goes_taking, goes_sending}
 
 -- ---- runs
 
@@ -133,6 +135,11 @@ module _ {B : Type 0} (log : B → Option Log) (found : FoundOnBanks) (old : Opt
         told = (begun.keeps.log, begun.keeps.now_is);
         moments = subst (λ (s : List KeptStep). LeavesFront found s old (log (states.state_banks state))) (sym (append-nil begun.first)) begun.moments;
         settled = begun.settled;
+        order = record {
+          begun = begun.keeps.log;
+          begins = subst (λ (l : Option Log). LeavesFront found begun.first old l) begun.keeps.now_is begun.moments;
+          goes = is_there;
+        };
       } in
       subst P (sym is) way
 
@@ -144,6 +151,10 @@ module _ {B : Type 0} (log : B → Option Log) (found : FoundOnBanks) (old : Opt
     -- whether it has ended
     way_halted : (halted : Bool) → node.halted ≡ halted → way.done.node.halted ≡ halted
     way_halted halted is = ap (λ (n : NodeValue). n.halted) way.node_is ∙ is
+
+    -- where it began
+    abbrev start : ServiceMoment
+    start = HasToSend (fresh_node way.done.keeper) [] (unwrap_or before []) way.order.begun
 
     -- it ended between two events
     pub stops_between : (So : Bool → ℕ → ℕ → Type 0) (back : B) → So node.halted taken turns → back ≡ node_banks node → FindsNow (keeper_found (node_value node).keeper) (log back)
@@ -159,9 +170,12 @@ module _ {B : Type 0} (log : B → Option Log) (found : FoundOnBanks) (old : Opt
         now_is = ap log is ∙ way.told.1;
         finds = finds way.told.0 (ap log is ∙ way.told.1) ∙ ap (λ (n : NodeValue). keeper_found n.keeper) (sym way.node_is);
       };
+      images = subst (λ (n : NodeValue). ImagesFind (keeper_found n.keeper) (log back)) (sym way.node_is)
+          (subst (λ (b : B). ImagesFind (keeper_found (node_value node).keeper) (log b)) (sym is) way.settled);
+      order = way.order;
       leaves = leaves_done found (keeper_found (node_value node).keeper) (durable_steps_of way.done) way_led old (log back)
           (subst (λ (b : B). LeavesFront found (durable_steps_of way.done) old (log b)) (sym is) way.moments)
-          (subst (λ (b : B). ImagesFind found old → ImagesFind (keeper_found (node_value node).keeper) (log b)) (sym is) way.settled);
+          (subst (λ (b : B). ImagesFind (keeper_found (node_value node).keeper) (log b)) (sym is) way.settled);
     }
 
     module _ (going : node.halted ≡ false) (few : taken < turns) (event : Event) (taking : Option WireLog) (took : taking ≡ option_map (λ l. Took event ∷ l) now) where
@@ -174,6 +188,23 @@ module _ {B : Type 0} (log : B → Option Log) (found : FoundOnBanks) (old : Opt
 
       taken_log : taking ≡ option_map (λ b. Took event ∷ way.done.after) before
       taken_log = logged_then way.done.after (λ l. Took event ∷ l) before now taking way.logged took
+
+      -- what a crash leaves meanwhile is said of the model's node
+      since : (steps : List KeptStep) (l : Option Log) → LeavesFront (keeper_found (node_value node).keeper) steps (log (node_banks node)) l
+          → LeavesMeanwhile way.told.0 l (λ calls image. FindsFront (keeper_found way.done.node.keeper) steps image)
+      since steps l moments =
+          subst (λ (n : NodeValue). LeavesMeanwhile way.told.0 l (λ calls image. FindsFront (keeper_found n.keeper) steps image)) (sym way.node_is)
+          (moments way.told.0 way.told.1 way.settled)
+
+      -- the event was done, and of what it sends a front was sent
+      order_on : (next : BankedNode B) (event_sends front rest : List Sent) (does : DoesEvent log node event next event_sends) (later : Log)
+          → log (node_banks next) ≡ Some later → event_sends ≡ front ++ rest
+          → GoesTo start (HasToSend (node_value next) rest (log_after front (Took event ∷ way.done.after)) later)
+      order_on next event_sends front rest does later told whole =
+          goes_sending start way.done.node (node_value next) event front rest does.steps way.done.after way.told.0 later (log (node_banks next)) went
+          (subst (λ (s : List Sent). NodeStep way.done.node event s does.steps (node_value next)) whole
+          (subst (λ (n : NodeValue). NodeStep n event event_sends does.steps (node_value next)) (sym way.node_is) does.does))
+          told (since does.steps (log (node_banks next)) does.moments) (does.settled way.settled) way.order.goes
 
       -- one more event is done
       pub way_more : (next : BankedNode B) (after : Option WireLog) → StaysTold (log (node_banks node)) (log (node_banks next)) → DoesTurn log node event taking next after
@@ -188,11 +219,16 @@ module _ {B : Type 0} (log : B → Option Log) (found : FoundOnBanks) (old : Opt
             counted = omega (arith, way.counted, length-append way.done.events (event ∷ []));
             node_is = refl;
             logged = logged_then (Took event ∷ way.done.after) (log_after turn.sent) before taking after taken_log turn.sends;
-            told = (_, told.1);
+            told = (grown_by told.0 way.told.0, told.1);
             moments = subst (λ (s : List KeptStep). LeavesFront found s old (log (node_banks next))) (append_assoc way.done.first way.done.steps turn.does.steps)
                 (moments_then found (keeper_found (node_value node).keeper) (durable_steps_of way.done) turn.does.steps old (log (node_banks node)) (log (node_banks next)) way_led
-                way.moments way.settled turn.does.moments);
-            settled = λ images. turn.does.settled (way.settled images);
+                way.moments (λ images. way.settled) turn.does.moments);
+            settled = turn.does.settled way.settled;
+            order = record {
+              begun = way.order.begun;
+              begins = way.order.begins;
+              goes = order_on next turn.sent turn.sent [] turn.does (grown_by told.0 way.told.0) told.1 (sym (append-nil turn.sent));
+            };
           }
 
       -- it ended while the event was done
@@ -203,6 +239,13 @@ module _ {B : Type 0} (log : B → Option Log) (found : FoundOnBanks) (old : Opt
         due = turn.stops.steps;
         is_due = subst (λ (n : NodeValue). (turn.stops.steps ≡ []) ⊎ IsDueByEvent n event turn.stops.steps) (sym way.node_is) turn.stops.due;
         logged = turn.silent ∙ taken_log;
+        banks = way.told.0;
+        order = record {
+          begun = way.order.begun;
+          begins = way.order.begins;
+          goes = goes_taking start way.done.node event way.done.after way.told.0 went way.order.goes;
+        };
+        since = since turn.stops.steps (log back) turn.stops.moments;
         leaves = leaves_due found (keeper_found (node_value node).keeper) (durable_steps_of way.done) way_led turn.stops.steps old (log (node_banks node)) (log back) first is
             way.moments way.settled turn.stops.moments;
       }
@@ -231,13 +274,18 @@ module _ {B : Type 0} (log : B → Option Log) (found : FoundOnBanks) (old : Opt
             rest = turn.sends.rest;
             whole = turn.sends.whole;
             logged = logged_then (Took event ∷ way.done.after) (log_after turn.sends.front) before taking after taken_log turn.sends.sends;
-            keeps = record { log = _; now_is = told.1; finds = turn.kept _ told.1 };
+            keeps = record { log = grown_by told.0 way.told.0; now_is = told.1; finds = turn.kept _ told.1 };
+            images = subst (λ (l : Option Log). ImagesFind (keeper_found (node_value turn.next).keeper) l) (sym same) (turn.does.settled way.settled);
+            order = record {
+              begun = way.order.begun;
+              begins = way.order.begins;
+              goes = order_on turn.next turn.sent turn.sends.front (turn.sends.missed ∷ turn.sends.rest) turn.does (grown_by told.0 way.told.0) (sym same ∙ told.1) turn.sends.whole;
+            };
             leaves = leaves_done found (keeper_found (node_value turn.next).keeper) (durable_steps_of way.done ++ turn.does.steps) sent_led old (log back)
                 (subst (λ (l : Option Log). LeavesFront found (durable_steps_of way.done ++ turn.does.steps) old l) (sym same)
                 (moments_then found (keeper_found (node_value node).keeper) (durable_steps_of way.done) turn.does.steps old (log (node_banks node)) (log (node_banks turn.next)) way_led
-                way.moments way.settled turn.does.moments))
-                (subst (λ (l : Option Log). ImagesFind found old → ImagesFind (keeper_found (node_value turn.next).keeper) l) (sym same)
-                (λ images. turn.does.settled (way.settled images)));
+                way.moments (λ images. way.settled) turn.does.moments))
+                (subst (λ (l : Option Log). ImagesFind (keeper_found (node_value turn.next).keeper) l) (sym same) (turn.does.settled way.settled));
           }
 
       -- a turn was not done

@@ -1,5 +1,6 @@
 pub mod ServiceStatuses
 pub mod Start
+pub mod ServiceOrder
 pub mod ServiceEnds
 pub mod ServiceTurns
 pub mod NodeBegun

@@ -18,13 +18,14 @@ use Rattle.node_run.specs.Start.{Begins, IsDueAtFirst, IsOther}
 use Rattle.node_run.specs.declared.stops.NodeStop.{NodeStop}
 use Rattle.node_run.specs.declared.stops.NodeStop.TheVariants as stops
 
--- a node began by its words: its banks keep what it has, and at each moment since a crash leaves what a front of its first steps makes
+-- a node began by its words: its banks keep what it has, whatever a crash leaves of them, and at each moment since a crash leaves what a front of its first
+-- steps makes
 pub record BeginsOn {B : Type 0} (log : B → Option Log) (words : NodeWords) (found : FoundOnBanks) (old : Option Log) (state : NodeState B) : Type 0 where
   pub first : List KeptStep
   pub begins : Begins words found first (keeper_of state)
   pub keeps : HasFound (keeper_found (keeper_of state)) (log (state_banks state))
   pub moments : LeavesFront found first old (log (state_banks state))
-  pub settled : ImagesFind found old → ImagesFind (keeper_found (keeper_of state)) (log (state_banks state))
+  pub settled : ImagesFind (keeper_found (keeper_of state)) (log (state_banks state))
 
 -- it did not, in the middle of durable steps that are due, or of none
 pub record FallsShort (words : NodeWords) (found : FoundOnBanks) (old now : Option Log) : Type 0 where
@@ -36,6 +37,7 @@ pub record FallsShort (words : NodeWords) (found : FoundOnBanks) (old now : Opti
 pub record StaysFound (So : Type 0) (found : FoundOnBanks) (old now : Option Log) : Type 0 where
   pub so : So
   pub keeps : HasFound found now
+  pub images : ImagesFind found now
   pub leaves : LeavesDone found [] [] old now
 
 abbrev pub BeginsShort : NodeStop → NodeWords → FoundOnBanks → (old now : Option Log) → Type 0

@@ -3,11 +3,12 @@
 use Rattle.std.specs.Prelude.{◌≡◌, ◌⊎◌, ℕ, ◌+◌, ◌<◌, ◌≤◌, Bool, true, false, List, [], ◌∷◌, ◌++◌, length, Option, None, Some, option_map, unwrap_or}
 use Rattle.mld_io.specs.declared.events.Event.{Event}
 use Rattle.mld_io.specs.declared.events.WireCall.TheVariants.{Took}
-use Rattle.mld_io.specs.Disk.{Log}
+use Rattle.mld_io.specs.Disk.{Log, LeavesMeanwhile}
 use Rattle.mld_io.specs.Wires.{WireLog}
 use Rattle.node_core.specs.clone_parts.KeptSteps.{KeptStep}
 use Rattle.node_core.specs.shell_session.Shells.{FoundOnBanks, Damage}
 use Rattle.node_core.specs.shell_session.Sessions.{HasFound}
+use Rattle.node_core.specs.shell_session.SessionLines.{ImagesFind, FindsFront, LeavesFront}
 use Rattle.node_core.specs.shell_session.RunEnds.{LeavesDone}
 use Rattle.node_run.specs.declared.node.NodeWords.{NodeWords}
 use Rattle.node_run.specs.Words.{AreWords}
@@ -16,6 +17,7 @@ use Rattle.node_core.specs.node_model.Keepers.{Keeper, keeper_found}
 use Rattle.node_core.specs.node_model.Events.{NodeValue, NodeStep, NodeRuns, log_after}
 use Rattle.node_core.specs.NodeEvents.{IsDueByEvent}
 use Rattle.node_run.specs.Start.{Begins, IsDueAtFirst, IsOther, fresh_node}
+use Rattle.node_run.specs.ServiceOrder.{ServiceMoment, HasToSend, HasToDo, GoesTo}
 use Rattle.node_run.specs.declared.stops.NodeStop.{NodeStop}
 use Rattle.node_run.specs.declared.stops.NodeStop.TheVariants as stops
 
@@ -56,6 +58,13 @@ EventsDoneIn found ends = EventsDone found ends.texts (unwrap_or ends.before [])
 abbrev pub durable_steps_of : {found : FoundOnBanks} {texts : List (List ℕ)} {log : WireLog} → EventsDone found texts log → List KeptStep
 durable_steps_of done = done.first ++ done.steps
 
+-- In which order it was done, up to this moment: the node began by its first durable steps, of which a crash left a front meanwhile, and went on from
+-- there, so that each part that it sent went out while the banks stayed as they were, and whatever a crash left of them had all that the node kept.
+pub record WasInOrder {found : FoundOnBanks} {texts : List (List ℕ)} {log : WireLog} (done : EventsDone found texts log) (old : Option Log) (moment : ServiceMoment) : Type 0 where
+  pub begun : Log
+  pub begins : LeavesFront found done.first old (Some begun)
+  pub goes : GoesTo (HasToSend (fresh_node done.keeper) [] log begun) moment
+
 -- ---- between two events
 
 -- by whether the node has ended, how many events it took, and how many it may take: it has ended; or all turns were taken; or it waits
@@ -68,13 +77,15 @@ HasTurned halted taken turns = (halted ≡ false) × (taken ≡ turns)
 abbrev pub Waits : Bool → ℕ → ℕ → Type 0
 Waits halted taken turns = (halted ≡ false) × (taken < turns)
 
--- it ended behind an event for which all was sent, or before the first: the banks keep what the events led to
+-- it ended behind an event for which all was sent, or before the first: the banks keep what the events led to, whatever a crash leaves of them
 pub record StopsBetweenEvents (So : Bool → ℕ → ℕ → Type 0) (found : FoundOnBanks) (ends : ServiceEdges) : Type 0 where
   pub done : EventsDoneIn found ends
   pub so : So done.node.halted (length done.events) done.words.turns
   pub counted : ends.turns ≡ length done.events
   pub logged : IsLogged ends done.after
   pub keeps : HasFound (keeper_found done.node.keeper) ends.now
+  pub images : ImagesFind (keeper_found done.node.keeper) ends.now
+  pub order : WasInOrder done ends.old (HasToSend done.node [] done.after keeps.log)
   pub leaves : LeavesDone found (durable_steps_of done) [] ends.old ends.now
 
 -- ---- at an event
@@ -92,9 +103,12 @@ pub record StopsWithinEvent (found : FoundOnBanks) (ends : ServiceEdges) : Type 
   pub due : List KeptStep
   pub is_due : (due ≡ []) ⊎ IsDueByEvent takes.done.node takes.event due
   pub logged : IsLogged ends (Took takes.event ∷ takes.done.after)
+  pub banks : Log
+  pub order : WasInOrder takes.done ends.old (HasToDo takes.done.node takes.event (Took takes.event ∷ takes.done.after) banks)
+  pub since : LeavesMeanwhile banks ends.now (λ calls image. FindsFront (keeper_found takes.done.node.keeper) due image)
   pub leaves : LeavesDone found (durable_steps_of takes.done) due ends.old ends.now
 
--- it ended while it sent: the event was done, and of what is to be sent for it a front was sent
+-- it ended while it sent: the event was done, whatever a crash leaves, and of what is to be sent for it a front was sent
 pub record StopsSending (found : FoundOnBanks) (ends : ServiceEdges) : Type 0 where
   pub takes : TakesOneEvent found ends
   pub sent : List Sent
@@ -107,6 +121,8 @@ pub record StopsSending (found : FoundOnBanks) (ends : ServiceEdges) : Type 0 wh
   pub whole : sent ≡ front ++ missed ∷ rest
   pub logged : IsLogged ends (log_after front (Took takes.event ∷ takes.done.after))
   pub keeps : HasFound (keeper_found next.keeper) ends.now
+  pub images : ImagesFind (keeper_found next.keeper) ends.now
+  pub order : WasInOrder takes.done ends.old (HasToSend next (missed ∷ rest) (log_after front (Took takes.event ∷ takes.done.after)) keeps.log)
   pub leaves : LeavesDone found (durable_steps_of takes.done ++ steps) [] ends.old ends.now
 
 -- ---- before the first event
@@ -130,13 +146,14 @@ pub record StopsAtFirst (found : FoundOnBanks) (ends : ServiceEdges) : Type 0 wh
   pub is_due : (due ≡ []) ⊎ IsDueAtFirst words found due
   pub leaves : LeavesDone found [] due ends.old ends.now
 
--- what was found is no clone that the node may run
+-- what was found is no clone that the node may run, and is found still, whatever a crash leaves
 pub record FindsSo (So : NodeWords → Type 0) (found : FoundOnBanks) (ends : ServiceEdges) : Type 0 where
   pub words : NodeWords
   pub are : AreWords ends.texts words
   pub so : So words
   pub nothing : TakesNoEvent ends
   pub keeps : HasFound found ends.now
+  pub images : ImagesFind found ends.now
   pub leaves : LeavesDone found [] [] ends.old ends.now
 
 -- ---- any end

@@ -13,7 +13,8 @@ use Rattle.node_core.specs.node_model.Events.{log_after}
 use Rattle.node_core.specs.NodeStates.{FindsNow}
 use Rattle.node_core.specs.Nodes.{BankedNode, node_value, node_banks}
 use Rattle.node_core.specs.NodeEvents.{DoesEvent, IsDueByEvent}
-use Rattle.node_run.specs.ServiceEnds.{EventsDone, durable_steps_of}
+use Rattle.node_run.specs.ServiceOrder.{HasToSend}
+use Rattle.node_run.specs.ServiceEnds.{EventsDone, durable_steps_of, WasInOrder}
 use Rattle.node_run.specs.declared.stops.NodeStop.{NodeStop}
 use Rattle.node_run.specs.declared.stops.NodeStop.TheVariants as stops
 
@@ -26,7 +27,8 @@ pub record IsServiceUnderWay {B : Type 0} (log : B → Option Log) (found : Foun
   pub logged : now ≡ option_map (λ log. done.after) before
   pub told : (first : Log) × (log (node_banks node) ≡ Some first)
   pub moments : LeavesFront found (durable_steps_of done) old (log (node_banks node))
-  pub settled : ImagesFind found old → ImagesFind (keeper_found (node_value node).keeper) (log (node_banks node))
+  pub settled : ImagesFind (keeper_found (node_value node).keeper) (log (node_banks node))
+  pub order : WasInOrder done old (HasToSend done.node [] done.after told.0)
 
 -- ---- a turn
 

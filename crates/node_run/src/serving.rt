@@ -56,8 +56,12 @@ pub fn serve<R: Threads + Sync, W: Wire, B: Banks>(
     // for the last one. 6: the last event wasn't done, and nothing was sent for it; or the banks failed before the first. 10, 11: no event was
     // taken, since a side is damaged, or the clone is another. 5: any of these.
     //
+    // Wire and banks were called in one order: an event was taken, then it was done on the banks, and then what it sends was sent, part by
+    // part, while the banks stayed as they were and all that the node keeps was found on whatever a crash leaves of them. So it is in the end
+    // of the events that were done; and where one was not, of a front of its durable steps.
+    //
     // Where the same was found on all that a crash might have left at first, so it is at each moment of what a front of the run's durable
-    // steps makes of that; and in the end of what all steps of the events that were done make, and a front of those of the one under way.
+    // steps makes of that.
     ensures ends { IfFound (B.log banks) (λ found. ServiceEnds result.fault found (record {
       texts = map (λ w. string_bytes w) words.now.items;
       turns = result.turns;
