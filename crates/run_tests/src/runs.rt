@@ -26,88 +26,169 @@ fn ends<R: Threads + Sync>(
     )
 }
 
+/// A schedule, the number of its first line that is no command, what is written, and whether a world is told of.
+type Refused = (&'static [u8], u64, &'static [u8], bool);
+
+const BAD_LINES: &[Refused] = &[
+    // Bytes that no transcript has.
+    (b"\n# c\n\xff\n", 3, b"", false),
+    (b"domain d clones 2\r\n", 1, b"", false),
+    (b"domain d clones 2\nshow 1\r\n", 2, b"ready 2\n", false),
+    (b"domain d clones 2\n#\xff\n", 2, b"ready 2\n", false),
+    (
+        b"domain d clones 2\nadd 0 <http://d/a> <http://d/#p> \"\xff\" .\n",
+        2,
+        b"ready 2\n",
+        false,
+    ),
+    (
+        b"domain d clones 2\nsingle <a:\xff>\n",
+        2,
+        b"ready 2\n",
+        false,
+    ),
+    (
+        b"domain d clones 2\nupdate 0 {\"p\":\"\xff\"}\n",
+        2,
+        b"ready 2\n",
+        false,
+    ),
+    (
+        b"domain d clones 2\ncrash 0 keep add 0 <http://d/a> <http://d/#p> \"\xff\" .\n",
+        2,
+        b"ready 2\n",
+        false,
+    ),
+    // A world is told of where a command was done.
+    (
+        b"domain d clones 1\n\n# c\nshow\nshow 0\n",
+        4,
+        b"ready 1\n",
+        false,
+    ),
+    (
+        b"domain d clones 1\nshow 0\nshow\n",
+        3,
+        b"ready 1\nhas 0\n",
+        true,
+    ),
+    (b"", 1, b"", false),
+    (b"single <a:b>\n", 1, b"", false),
+    (
+        b"domain d clones 1\ncrash 0 keep open 0\ncrash 0\n",
+        3,
+        b"ready 1\nlive\ncrashed\n",
+        true,
+    ),
+];
+
 #[test]
 fn a_line_that_is_no_command_ends_the_run(rt: HostRuntime) -> Result<(), Fail> {
-    let bad = RunFault::BadLine;
-    let cases: [(&[u8], u8, RunFault, &[u8], bool); 13] = [
-        // Bytes that no transcript has.
-        (b"\n# c\n\xff\n", 4, bad(3), b"", false),
-        (b"domain d clones 2\r\n", 4, bad(1), b"", false),
-        (
-            b"domain d clones 2\nshow 1\r\n",
-            4,
-            bad(2),
-            b"ready 2\n",
-            false,
-        ),
-        (
-            b"domain d clones 2\n#\xff\n",
-            4,
-            bad(2),
-            b"ready 2\n",
-            false,
-        ),
-        (
-            b"domain d clones 2\nadd 0 <http://d/a> <http://d/#p> \"\xff\" .\n",
-            4,
-            bad(2),
-            b"ready 2\n",
-            false,
-        ),
-        (
-            b"domain d clones 2\nsingle <a:\xff>\n",
-            4,
-            bad(2),
-            b"ready 2\n",
-            false,
-        ),
-        (
-            b"domain d clones 2\nupdate 0 {\"p\":\"\xff\"}\n",
-            4,
-            bad(2),
-            b"ready 2\n",
-            false,
-        ),
-        (
-            b"domain d clones 2\ncrash 0 keep add 0 <http://d/a> <http://d/#p> \"\xff\" .\n",
-            4,
-            bad(2),
-            b"ready 2\n",
-            false,
-        ),
-        // A world is told of where a command was done.
-        (
-            b"domain d clones 1\n\n# c\nshow\nshow 0\n",
-            4,
-            bad(4),
-            b"ready 1\n",
-            false,
-        ),
-        (
-            b"domain d clones 1\nshow 0\nshow\n",
-            4,
-            bad(3),
-            b"ready 1\nhas 0\n",
-            true,
-        ),
-        (b"", 4, bad(1), b"", false),
-        (b"single <a:b>\n", 4, bad(1), b"", false),
-        (
-            b"domain d clones 1\ncrash 0 keep open 0\ncrash 0\n",
-            4,
-            bad(3),
-            b"ready 1\nlive\ncrashed\n",
-            true,
-        ),
-    ];
-    for (schedule, status, fault, text, tells) in cases {
+    for (schedule, line, text, tells) in BAD_LINES {
         let end = End {
-            status,
-            fault: Some(fault),
-            tells,
+            status: 4,
+            fault: Some(RunFault::BadLine(*line)),
+            tells: *tells,
         };
         let is_so = ends(&rt, rt.alloc(), replay(schedule), &[], end, text)?;
         assert!(rt; is_so, "{schedule:?}");
+    }
+    Ok(())
+}
+
+/// A triple is added at a clone, and comes to the other.
+const DELIVERED: &[u8] = b"domain d clones 2\n\
+    add 0 <http://d/a> <http://d/#p> \"x\" .\n\
+    deliver 1 1\n\
+    show 0\n\
+    show 1\n\
+    compare 0 1\n";
+
+/// What is written for that.
+const DELIVERED_TEXT: &[u8] = b"ready 2\n\
+    did r0.1 m1\n\
+    took r0.1-1\n\
+    has 1\n\
+    r0.1 <http://d/a> <http://d/#p> \"x\" .\n\
+    has 1\n\
+    r0.1 <http://d/a> <http://d/#p> \"x\" .\n\
+    same\n";
+
+/// What is written where no line was answered.
+const NO_TEXT: &[u8] = b"";
+
+/// What goes amiss in a run: its name, the reads and the writes that fail, and the banks that are odd; and how the run ends then.
+type Amiss = (
+    &'static str,
+    &'static [u64],
+    &'static [u64],
+    Odd,
+    u8,
+    Option<RunFault>,
+);
+
+const FIRST_FAULTS: &[Amiss] = &[
+    ("nothing", &[], &[], Odd::Nothing, 0, None),
+    (
+        "the first read fails",
+        &[0],
+        &[],
+        Odd::Nothing,
+        2,
+        Some(RunFault::ReadFault),
+    ),
+    (
+        "the first write fails",
+        &[],
+        &[0],
+        Odd::Nothing,
+        3,
+        Some(RunFault::WriteFault),
+    ),
+    (
+        "the first call of the banks of clone 1 fails",
+        &[],
+        &[],
+        Odd::Fails(1, 0),
+        6,
+        Some(RunFault::Device(1)),
+    ),
+    (
+        "the banks of clone 3 have a byte on side B",
+        &[],
+        &[],
+        Odd::Filled(3),
+        8,
+        Some(RunFault::NotEmpty(3)),
+    ),
+];
+
+/// Whether a run over `DELIVERED` ends so, with nothing written; or, where nothing goes amiss, with the whole text.
+fn ends_amiss<R: Threads + Sync>(
+    rt: &R,
+    alloc: Global,
+    (_name, reads, writes, odd, status, fault): Amiss,
+) -> Result<bool, AllocError> {
+    let given = Given {
+        reads,
+        odd,
+        ..replay(DELIVERED)
+    };
+    let tells = fault.is_none();
+    let end = End {
+        status,
+        fault,
+        tells,
+    };
+    let text = if tells { DELIVERED_TEXT } else { NO_TEXT };
+    ends(rt, alloc, given, writes, end, text)
+}
+
+#[test]
+fn what_goes_amiss_at_first_ends_the_run(rt: HostRuntime) -> Result<(), Fail> {
+    for amiss in FIRST_FAULTS {
+        let name = amiss.0;
+        assert!(rt; ends_amiss(&rt, rt.alloc(), *amiss)?, "{name}");
     }
     Ok(())
 }
@@ -126,30 +207,50 @@ fn end_at(fault: Option<RunFault>, tells: bool) -> End {
     }
 }
 
+/// The reads and the writes that fail, the fault that ends the run then, what is written, and whether a world is told of.
+type Failing = (
+    &'static [u64],
+    &'static [u64],
+    Option<RunFault>,
+    &'static [u8],
+    bool,
+);
+
+const READ: Option<RunFault> = Some(RunFault::ReadFault);
+
+const WRITE: Option<RunFault> = Some(RunFault::WriteFault);
+
+const LATER_FAULTS: &[Failing] = &[
+    // The lines take 18 and 7 bytes with their LF, and the last one 6: read 31 gives the end.
+    (&[3], &[], READ, b"", false),
+    (&[17], &[], READ, b"", false),
+    (&[24], &[], READ, b"ready 2\n", false),
+    (&[25], &[], READ, b"ready 2\nhas 0\n", true),
+    // Where the read fails that would tell the end, the last line isn't done.
+    (&[31], &[], READ, b"ready 2\nhas 0\n", true),
+    (&[], &[1], WRITE, b"ready 2\n", false),
+    // Nothing is read behind the end, so later failures are never met.
+    (&[32, 33, 34], &[3], None, b"ready 2\nhas 0\nhas 0\n", true),
+];
+
+/// Whether a run ends so where these reads and writes fail.
+fn ends_failing<R: Threads + Sync>(
+    rt: &R,
+    alloc: Global,
+    (reads, writes, fault, text, tells): Failing,
+) -> Result<bool, AllocError> {
+    let given = Given {
+        reads,
+        ..replay(b"domain d clones 2\nshow 0\nshow 1")
+    };
+    ends(rt, alloc, given, writes, end_at(fault, tells), text)
+}
+
 #[test]
 fn a_failed_read_or_write_ends_the_run(rt: HostRuntime) -> Result<(), Fail> {
-    let read = Some(RunFault::ReadFault);
-    let write = Some(RunFault::WriteFault);
-    // The lines take 18 and 7 bytes with their LF, and the last one 6: read 31 gives the end.
-    let cases: [(&[u64], &[u64], Option<RunFault>, &[u8], bool); 8] = [
-        (&[3], &[], read, b"", false),
-        (&[17], &[], read, b"", false),
-        (&[24], &[], read, b"ready 2\n", false),
-        (&[25], &[], read, b"ready 2\nhas 0\n", true),
-        // Where the read fails that would tell the end, the last line isn't done.
-        (&[31], &[], read, b"ready 2\nhas 0\n", true),
-        (&[], &[0], write, b"", false),
-        (&[], &[1], write, b"ready 2\n", false),
-        // Nothing is read behind the end, so later failures are never met.
-        (&[32, 33, 34], &[3], None, b"ready 2\nhas 0\nhas 0\n", true),
-    ];
-    for (reads, writes, fault, text, tells) in cases {
-        let given = Given {
-            reads,
-            ..replay(b"domain d clones 2\nshow 0\nshow 1")
-        };
-        let is_so = ends(&rt, rt.alloc(), given, writes, end_at(fault, tells), text)?;
-        assert!(rt; is_so, "{reads:?} {writes:?}");
+    for failing in LATER_FAULTS {
+        let reads = failing.0;
+        assert!(rt; ends_failing(&rt, rt.alloc(), *failing)?, "{reads:?}");
     }
     Ok(())
 }
@@ -188,48 +289,61 @@ fn ends_behind<R: Threads + Sync>(
     ends(rt, alloc, replay(&schedule), &[], end, text)
 }
 
+/// How many whole comments there are, the size of the one behind them, and the fault that ends the run then. A line has 1,048,576 bytes at
+/// most, and the input 16,777,216: 18, then 15 times 1,048,576, and 1,048,558.
+const LIMITS: &[(usize, usize, Option<RunFault>)] = &[
+    (0, 1_048_576, None),
+    (0, 1_048_577, Some(RunFault::TooLarge(2))),
+    (15, 1_048_557, None),
+    (15, 1_048_558, Some(RunFault::TooLarge(17))),
+];
+
 #[test]
 fn a_line_and_the_input_have_limits(rt: HostRuntime) -> Result<(), Fail> {
-    // A line has 1,048,576 bytes at most, and the input 16,777,216: 18, then 15 times 1,048,576, and 1,048,558.
-    let cases = [
-        (0, 1_048_576, None),
-        (0, 1_048_577, Some(RunFault::TooLarge(2))),
-        (15, 1_048_557, None),
-        (15, 1_048_558, Some(RunFault::TooLarge(17))),
-    ];
-    for (lines, size, fault) in cases {
-        let is_so = ends_behind(&rt, rt.alloc(), lines, size, fault)?;
+    for (lines, size, fault) in LIMITS {
+        let is_so = ends_behind(&rt, rt.alloc(), *lines, *size, *fault)?;
         assert!(rt; is_so, "{lines} {size}");
     }
     Ok(())
 }
 
+/// Words, the banks that are odd, and how a run by them ends.
+type Worded = (&'static [&'static str], Odd, u8, RunFault);
+
+const WORDS: &[Worded] = &[
+    (&[], Odd::Nothing, 1, RunFault::Usage),
+    (&["gen", "0"], Odd::Nothing, 1, RunFault::Usage),
+    (&["gen", "00", "1"], Odd::Nothing, 1, RunFault::Usage),
+    (&["gen", "0", "10001"], Odd::Nothing, 1, RunFault::Usage),
+    (&["gen", "0", "1"], Odd::Fails(1, 0), 6, RunFault::Device(1)),
+    (&["replay", "x"], Odd::Nothing, 1, RunFault::Usage),
+    (&["Replay"], Odd::Nothing, 1, RunFault::Usage),
+];
+
+/// Whether a run by these words ends so, and writes nothing.
+fn ends_by<R: Threads + Sync>(
+    rt: &R,
+    alloc: Global,
+    (words, odd, status, fault): Worded,
+) -> Result<bool, AllocError> {
+    let given = Given {
+        words,
+        odd,
+        ..replay(DELIVERED)
+    };
+    let end = End {
+        status,
+        fault: Some(fault),
+        tells: false,
+    };
+    ends(rt, alloc, given, &[], end, NO_TEXT)
+}
+
 #[test]
-fn other_words_or_banks_end_the_run_at_once(rt: HostRuntime) -> Result<(), Fail> {
-    let cases: [(&[&str], Odd, u8, RunFault); 9] = [
-        (&[], Odd::Nothing, 1, RunFault::Usage),
-        (&["gen", "0"], Odd::Nothing, 1, RunFault::Usage),
-        (&["gen", "00", "1"], Odd::Nothing, 1, RunFault::Usage),
-        (&["gen", "0", "10001"], Odd::Nothing, 1, RunFault::Usage),
-        (&["gen", "0", "1"], Odd::Fails(1, 0), 6, RunFault::Device(1)),
-        (&["replay", "x"], Odd::Nothing, 1, RunFault::Usage),
-        (&["Replay"], Odd::Nothing, 1, RunFault::Usage),
-        (&["replay"], Odd::Fails(1, 0), 6, RunFault::Device(1)),
-        (&["replay"], Odd::Filled(3), 8, RunFault::NotEmpty(3)),
-    ];
-    for (words, odd, status, fault) in cases {
-        let given = Given {
-            words,
-            odd,
-            ..replay(b"domain d clones 2\n")
-        };
-        let end = End {
-            status,
-            fault: Some(fault),
-            tells: false,
-        };
-        let is_so = ends(&rt, rt.alloc(), given, &[], end, b"")?;
-        assert!(rt; is_so, "{status}");
+fn other_words_end_the_run_at_once(rt: HostRuntime) -> Result<(), Fail> {
+    for worded in WORDS {
+        let words = worded.0;
+        assert!(rt; ends_by(&rt, rt.alloc(), *worded)?, "{words:?}");
     }
     Ok(())
 }
