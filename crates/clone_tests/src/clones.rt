@@ -1,8 +1,7 @@
-//! A clone's parts, a foreign use of its leaf, and a device that fails.
-use crate::made::{TestClone, Word, are_given, first, parts, receive, set};
+//! A clone's parts, and what it answers to a foreign use of its leaf and behind a failure of its device.
+use crate::made::{Asked, NEVER, TestClone, Word, answered, are_given, first, parts, receive, set};
 use clone_core::ReceiveFault;
 use journal_store::Why;
-use mld_io::Leave;
 use std::alloc::Global;
 use std::test::Fail;
 use std::thread::Threads;
@@ -51,46 +50,69 @@ fn finds_entries(clone: &TestClone) -> bool {
 
 #[test]
 fn a_clone_tells_its_parts(rt: HostRuntime) -> Result<(), Fail> {
-    let mut clone = first(&rt, rt.alloc())?;
+    let mut clone = first(&rt, rt.alloc(), NEVER)?;
     assert!(rt;
         is_first(&clone) && makes_and_takes(&mut clone, &rt, rt.alloc()) && finds_entries(&clone)
     );
     Ok(())
 }
 
-/// Whether a clone at the root that added a triple refuses a second operation of the root that it didn't make, and is as it was.
-fn tells_a_foreign_use<R: Threads + Sync>(clone: &mut TestClone, rt: &R, alloc: Global) -> bool {
-    let foreign = ReceiveFault::ForeignTick { said: 2, own: 1 };
-    set(clone, alloc, true) == Word::Made(1)
-        && receive(clone, rt, alloc, range(Path::root(), 2, 2)) == Word::NotTaken(foreign)
-        && clone.is_closed().is_none()
-        && parts(clone) == (1, 0, 1, 1)
-}
+/// What is asked of a clone: when, what, what it answers, and why it is closed then, if it is.
+type Case = (&'static str, Asked, Word, Option<Why>);
 
-/// Whether it refuses an add where the third call of the device fails, and is closed, with all that it had.
-fn is_closed_by_a_fault(clone: &mut TestClone, alloc: Global) -> bool {
-    clone.arm(2, Leave::Lose);
-    set(clone, alloc, true) == Word::SetFailed
-        && clone.is_closed() == Some(Why::Device)
-        && parts(clone) == (1, 0, 1, 1)
-}
+/// Why the clone is closed once its device failed.
+const FAILED: Option<Why> = Some(Why::Device);
 
-/// Whether it refuses to add and to take since its device failed, and is as it was.
-fn stays_closed<R: Threads + Sync>(clone: &mut TestClone, rt: &R, alloc: Global) -> bool {
-    let why = Why::Device;
-    set(clone, alloc, true) == Word::SetClosed(why)
-        && receive(clone, rt, alloc, range(right(), 1, 1))
-            == Word::NotTaken(ReceiveFault::Closed { why })
-        && parts(clone) == (1, 0, 1, 1)
+/// What it answers then.
+const CLOSED: Word = Word::Closed(Why::Device);
+
+/// What is asked of one clone at the root, one after another.
+const CASES: &[Case] = &[
+    ("an add", Asked::Add, Word::Made(1), None),
+    // The second tick is of an operation that the clone didn't make.
+    (
+        "a foreign use of its leaf",
+        Asked::Receive(2),
+        Word::NotTaken(ReceiveFault::ForeignTick { said: 2, own: 1 }),
+        None,
+    ),
+    ("nothing to compact", Asked::Compact, Word::Kept(1), None),
+    ("nothing to truncate", Asked::Truncate, Word::Kept(1), None),
+    ("a query", Asked::Query, Word::Answered, None),
+    (
+        "the third call of the device in an add fails",
+        Asked::Add,
+        Word::SetFailed,
+        FAILED,
+    ),
+    ("closed: an add", Asked::Add, CLOSED, FAILED),
+    ("closed: a range", Asked::Receive(2), CLOSED, FAILED),
+    ("closed: a compaction", Asked::Compact, CLOSED, FAILED),
+    ("closed: a truncation", Asked::Truncate, CLOSED, FAILED),
+    ("closed: a query", Asked::Query, CLOSED, FAILED),
+];
+
+/// The call of a clone's device that fails: a mount of blank banks takes four, the making of a journal six, and an append four. So this is
+/// the third one of the second append.
+const FAILING: u64 = 16;
+
+/// The first case that a clone doesn't answer so, or that leaves it with other parts than the first add did; or else no text.
+fn first_amiss<R: Threads + Sync>(clone: &mut TestClone, rt: &R, alloc: Global) -> &'static str {
+    for (when, asked, word, why) in CASES {
+        let is_so = answered(clone, rt, alloc, *asked) == *word
+            && clone.is_closed() == *why
+            && parts(clone) == (1, 0, 1, 1);
+        if !is_so {
+            return *when;
+        }
+    }
+    ""
 }
 
 #[test]
 fn a_clone_is_closed_by_a_fault_of_its_device(rt: HostRuntime) -> Result<(), Fail> {
-    let mut clone = first(&rt, rt.alloc())?;
-    assert!(rt;
-        tells_a_foreign_use(&mut clone, &rt, rt.alloc())
-            && is_closed_by_a_fault(&mut clone, rt.alloc())
-            && stays_closed(&mut clone, &rt, rt.alloc())
-    );
+    let mut clone = first(&rt, rt.alloc(), FAILING)?;
+    let amiss = first_amiss(&mut clone, &rt, rt.alloc());
+    assert!(rt; amiss.is_empty(), "{amiss}");
     Ok(())
 }

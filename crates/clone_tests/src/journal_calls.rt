@@ -10,13 +10,14 @@ ghost use Rattle.journal_store.specs.Calls.{made};
 ghost use Rattle.clone_tests.specs.KeptAtMost.{KeepsAtMost};
 
 use crate::journals::{first_entry, first_head};
+use crate::made::failing;
 use disk_model::MemoryBanks;
 use journal_store::{
     AppendFault, Blank, Head, Journal, JournalMounted, MakeFault, MountFault, SwapFault,
 };
 use mld_io::{CrashBanks, Leave};
 use mld_ops::Entry;
-use std::alloc::{AllocError, Global};
+use std::alloc::Global;
 use std::test::Fail;
 
 /// Which call of a journal was refused because the device failed.
@@ -121,13 +122,6 @@ fn crashed(alloc: Global, head: &Head, entry: &Entry, calls: u32, leave: Leave) 
         }
         _other => AMISS,
     }
-}
-
-/// Blank banks, of which the call of this number fails.
-fn failing(alloc: Global, call: u64) -> Result<Box<MemoryBanks>, AllocError> {
-    let mut banks = Box::new(alloc, MemoryBanks::blank(alloc))?;
-    banks.fail_call(call)?;
-    Ok(banks)
 }
 
 /// Which call was refused where a mount was refused by a fault.

@@ -1,5 +1,6 @@
 //! What a mount answers to given bytes: damage and its place, which side counts, and a device that fails.
 use crate::journals::SIDE;
+use crate::made::NEVER;
 use disk_model::MemoryBanks;
 use journal_store::{Journal, JournalMounted, MountFault};
 use mld_io::Side;
@@ -47,9 +48,6 @@ fn mount_of(alloc: Global, a: &[u8], b: &[u8], call: u64) -> Result<Answer, Allo
     let mounted = Box::new(alloc, Journal::mount(alloc, Box::into_inner(banks)))?;
     Ok(answer_of(&mounted))
 }
-
-/// The number of a call that a mount doesn't make.
-const NEVER: u64 = 100;
 
 /// Where the last field begins of so many bytes of the side.
 fn start_before(count: u64) -> u64 {

@@ -1,13 +1,15 @@
 //! The clones that tests work on, in boxes, which are let go in one step; and what they do, on loans and in plain words.
 ghost use Rattle.std.specs.Prelude.{IfOk, IsTrue};
 ghost use Rattle.text_rules.specs.Domain.{is_domain};
-ghost use Rattle.jrql_ast.specs.InForm.{IsPlanInForm};
+ghost use Rattle.jrql_ast.specs.InForm.{IsPlanInForm, IsQueryInForm};
 ghost use Rattle.mld_ops.specs.Messages.{message_value, IsGoodMessage};
 
-use clone_core::{Asker, Done, Got, MldClone, Mounted, ReceiveFault, UpdateFault};
+use clone_core::{
+    Asker, Done, Got, KeepFault, MldClone, Mounted, QueryFault, ReceiveFault, UpdateFault,
+};
 use disk_model::MemoryBanks;
 use journal_store::{Blank, Why};
-use jrql_ast::UpdatePlan;
+use jrql_ast::{Answer, Group, Query, Sequence, UpdatePlan, What};
 use mld_ops::{Entry, Message};
 use rdf_terms::{Iri, Triple, read_triple};
 use std::alloc::{AllocError, Global};
@@ -29,6 +31,24 @@ const TRIPLE: &str = "<http://d/s> <http://d/p> <http://d/o> .";
 /// The property that has one value at most.
 const PROPERTY: &str = "http://d/p";
 
+/// The number of a call of a device that no test makes.
+pub const NEVER: u64 = 100;
+
+/// What is asked of a clone at the root.
+#[derive(Clone, Copy)]
+pub enum Asked {
+    /// To add the triple.
+    Add,
+    /// To receive the range of this tick of the root, which deletes and inserts nothing.
+    Receive(u32),
+    /// To compact its journal.
+    Compact,
+    /// To truncate its journal to one entry.
+    Truncate,
+    /// To answer a query.
+    Query,
+}
+
 /// What a clone answers, in plain words.
 #[derive(Clone, Copy, PartialEq, Eq)]
 pub enum Word {
@@ -38,12 +58,16 @@ pub enum Word {
     Took(usize),
     Held,
     Known,
-    /// No operation was made, since the clone is closed.
-    SetClosed(Why),
-    /// So it was since no tick is left.
+    /// The journal has so many entries.
+    Kept(u64),
+    Answered,
+    /// Nothing was done, since the clone is closed.
+    Closed(Why),
+    /// No operation was made, since no tick is left.
     SetSpent,
-    /// And so since the device failed.
+    /// So it was since the device failed.
     SetFailed,
+    /// A message was refused for another reason.
     NotTaken(ReceiveFault),
     /// Another answer, or none, since what was to be handed to the clone could not be made.
     Other,
@@ -53,7 +77,7 @@ fn word_of_done(done: Result<Done, UpdateFault>) -> Word {
     match done {
         Ok(Done::Made(entry)) => Word::Made(entry.range().last),
         Ok(Done::Nothing) => Word::Other,
-        Err(UpdateFault::Closed { why }) => Word::SetClosed(why),
+        Err(UpdateFault::Closed { why }) => Word::Closed(why),
         Err(UpdateFault::TicksSpent) => Word::SetSpent,
         Err(UpdateFault::Device) => Word::SetFailed,
         Err(_fault) => Word::Other,
@@ -66,8 +90,72 @@ fn word_of_got(got: Result<Got, ReceiveFault>) -> Word {
         Ok(Got::Held) => Word::Held,
         Ok(Got::Known) => Word::Known,
         Ok(_) => Word::Other,
+        Err(ReceiveFault::Closed { why }) => Word::Closed(why),
         Err(fault) => Word::NotTaken(fault),
     }
+}
+
+fn word_of_kept(kept: Result<u64, KeepFault>) -> Word {
+    match kept {
+        Ok(count) => Word::Kept(count),
+        Err(KeepFault::Closed { why }) => Word::Closed(why),
+        Err(_fault) => Word::Other,
+    }
+}
+
+fn word_of_answer(answer: Result<Answer, QueryFault>) -> Word {
+    match answer {
+        Ok(_) => Word::Answered,
+        Err(QueryFault::Closed { why }) => Word::Closed(why),
+        Err(_fault) => Word::Other,
+    }
+}
+
+/// What a clone answers to what is asked of it.
+pub fn answered<R: Threads + Sync>(
+    clone: &mut TestClone,
+    rt: &R,
+    alloc: Global,
+    asked: Asked,
+) -> Word {
+    match asked {
+        Asked::Add => set(clone, alloc, true),
+        Asked::Receive(tick) => receive(clone, rt, alloc, of_root(tick)),
+        Asked::Compact => word_of_kept(clone.compact(alloc)),
+        Asked::Truncate => word_of_kept(clone.truncate(alloc, 1)),
+        Asked::Query => described(clone, rt, alloc),
+    }
+}
+
+/// The range of one tick of the root.
+fn of_root(tick: u32) -> Range {
+    Range {
+        path: Path::root(),
+        first: tick,
+        last: tick,
+    }
+}
+
+/// The query of no pattern that describes nothing.
+fn plain_query(alloc: Global) -> Query
+    ensures { IsQueryInForm result }
+{
+    Query {
+        group: Group {
+            names: Sequence::new(alloc),
+            hidden: 0,
+            patterns: Sequence::new(alloc),
+            branches: Sequence::new(alloc),
+            filters: Sequence::new(alloc),
+        },
+        what: What::Describe(Sequence::new(alloc)),
+    }
+}
+
+/// What a clone answers to that query.
+fn described<R: Threads + Sync>(clone: &TestClone, rt: &R, alloc: Global) -> Word {
+    let query = plain_query(alloc);
+    word_of_answer(clone.query(rt, alloc, &query))
 }
 
 /// What a clone answers where it is to add the triple, or to remove it.
@@ -163,27 +251,37 @@ pub fn domain(alloc: Global) -> Result<Text, Fail>
     Ok(domain)
 }
 
-/// Banks in memory that keep nothing.
-fn blank<R: Threads + Sync>(rt: &R, alloc: Global) -> Result<Blank<MemoryBanks>, Fail> {
-    match MldClone::mount(rt, alloc, MemoryBanks::blank(alloc)) {
+/// Blank banks, of which the call of this number fails.
+pub fn failing(alloc: Global, call: u64) -> Result<Box<MemoryBanks>, AllocError> {
+    let mut banks = Box::new(alloc, MemoryBanks::blank(alloc))?;
+    banks.fail_call(call)?;
+    Ok(banks)
+}
+
+/// Banks in memory that keep nothing, of which the call of this number fails.
+fn blank<R: Threads + Sync>(rt: &R, alloc: Global, call: u64) -> Result<Blank<MemoryBanks>, Fail> {
+    let banks = failing(alloc, call)?;
+    match MldClone::mount(rt, alloc, Box::into_inner(banks)) {
         Mounted::Empty(blank) => Ok(blank),
         Mounted::Live(_) | Mounted::Refused(_, _) => Err("no blank".into()),
     }
 }
 
-/// The first clone of the domain `d`, with the id 7.
-pub fn first<R: Threads + Sync>(rt: &R, alloc: Global) -> Result<Box<TestClone>, Fail> {
-    founded(rt, alloc, properties(alloc)?)
+/// The first clone of the domain `d`, with the id 7, on banks of which the call of this number fails.
+pub fn first<R: Threads + Sync>(rt: &R, alloc: Global, call: u64) -> Result<Box<TestClone>, Fail> {
+    founded(rt, alloc, call, properties(alloc)?)
 }
 
-/// The first clone of the domain `d`, with these properties.
+/// The same, with these properties.
 fn founded<R: Threads + Sync>(
     rt: &R,
     alloc: Global,
+    call: u64,
     properties: Vec<Iri>,
 ) -> Result<Box<TestClone>, Fail> {
     let id = Uuid::from_u128(7);
-    match MldClone::genesis(alloc, blank(rt, alloc)?, id, domain(alloc)?, properties) {
+    let domain = domain(alloc)?;
+    match MldClone::genesis(alloc, blank(rt, alloc, call)?, id, domain, properties) {
         Ok(clone) => Ok(Box::new(alloc, clone)?),
         Err((_fault, _banks)) => Err("not founded".into()),
     }
@@ -201,6 +299,6 @@ fn asking<R: Threads + Sync>(
     properties: Vec<Iri>,
 ) -> Result<Box<TestAsker>, Fail> {
     let id = Uuid::from_u128(2);
-    let asker = Asker::new(blank(rt, alloc)?, id, domain(alloc)?, properties);
+    let asker = Asker::new(blank(rt, alloc, NEVER)?, id, domain(alloc)?, properties);
     Ok(Box::new(alloc, asker)?)
 }
