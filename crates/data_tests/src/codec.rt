@@ -38,7 +38,7 @@ const PAIRS: &[u8] =
 const ID: &[u8] = b"0123456789abcdef";
 
 // Messages of each kind, empty and filled, in pieces.
-const MESSAGES: [&[&[u8]]; 9] = [
+const MESSAGES: &[&[&[u8]]] = &[
     // The first operation of the root inserts the triple, and the second one deletes it.
     &[FIRST, TIME, ZERO, ONE, TRIPLE, ONE],
     &[SECOND, LATER, ONE, TRIPLE, DOT, ZERO],
@@ -51,56 +51,107 @@ const MESSAGES: [&[&[u8]]; 9] = [
     &[b"\x05", ID, b"\x02\x40", CLOCK, PAIRS],
 ];
 
-// Messages in pieces, each with the place of its fault.
-const FAULTS: [(&[&[u8]], usize); 22] = [
-    (&[], 0),
-    (&[b"\x07"], 0),
-    (&[b"\x02\xff\xff\xff\xff"], 5),
-    (&[b"\x02\x00\x00\x00"], 1),
-    // A clock whose paths descend, with an unused bit set, with a tick of 0, with a path of 65 letters; a short id.
+// What is amiss in a message, the message in pieces, and the place where reading it stops.
+type Refused = (&'static str, &'static [&'static [u8]], usize);
+
+const FAULTS: &[Refused] = &[
+    ("no byte", &[], 0),
+    ("a kind that there isn't", &[b"\x07"], 0),
     (
+        "more paths than there are bytes",
+        &[b"\x02\xff\xff\xff\xff"],
+        5,
+    ),
+    ("a count that is cut short", &[b"\x02\x00\x00\x00"], 1),
+    (
+        "paths that descend",
         &[b"\x02\x00\x00\x00\x02\x01\x80\x00\x00\x00\x01\x01\x00\x00\x00\x00\x01"],
         11,
     ),
-    (&[b"\x02\x00\x00\x00\x01\x01\x40\x00\x00\x00\x01"], 5),
-    (&[b"\x02\x00\x00\x00\x01\x01\x80\x00\x00\x00\x00"], 7),
-    (&[b"\x02\x00\x00\x00\x01\x41\x00\x00\x00\x00\x01"], 5),
-    (&[b"\x04\x00\x00\x00"], 1),
-    // Two blanks between the terms; a byte that is no UTF-8; a text that is cut short.
     (
+        "a path with an unused bit set",
+        &[b"\x02\x00\x00\x00\x01\x01\x40\x00\x00\x00\x01"],
+        5,
+    ),
+    (
+        "a clock with a tick of 0",
+        &[b"\x02\x00\x00\x00\x01\x01\x80\x00\x00\x00\x00"],
+        7,
+    ),
+    (
+        "a path of 65 letters",
+        &[b"\x02\x00\x00\x00\x01\x41\x00\x00\x00\x00\x01"],
+        5,
+    ),
+    ("an id that is cut short", &[b"\x04\x00\x00\x00"], 1),
+    (
+        "two blanks between terms",
         &[
             b"\x03\x00\x00\x00\x00\x00\x00\x00\x01\x00\x00\x00\x21<http://d/a>  <http://d/#p> \"x\" .\x00\x00\x00\x00\x03",
         ],
         13,
     ),
     (
+        "a text that is no UTF-8",
         &[b"\x03\x00\x00\x00\x00\x00\x00\x00\x01\x00\x00\x00\x01\xff\x00\x00\x00\x00\x03"],
         13,
     ),
     (
+        "a text that is cut short",
         &[b"\x03\x00\x00\x00\x00\x00\x00\x00\x01\x00\x00\x00\x21<http://d/a> "],
         13,
     ),
-    // The second pair isn't covered: it begins behind the first, of 41 bytes.
     (
+        "a pair that isn't covered, behind one of 41 bytes",
         &[b"\x03\x00\x00\x00\x01\x00\x00\x00\x00\x03", PAIRS],
         14 + 41,
     ),
-    // A delete that stands twice, of 41 bytes, and an insert, of 40 bytes.
     (
+        "a delete of 41 bytes that stands twice",
         &[SECOND, LATER, TWO, TRIPLE, DOT, TRIPLE, DOT, ZERO],
         23 + 41,
     ),
-    (&[FIRST, TIME, ZERO, TWO, TRIPLE, ONE, TRIPLE, ONE], 27 + 40),
-    // Parts that are none of an entry: a first tick of 0, or above the last; ticks of its path that aren't its last; a delete that its
-    // time doesn't cover, or of the range; an insert before the range, and behind it.
-    (&[b"\x01\x00", ZERO, ONE, TIME, ZERO, ZERO], 1),
-    (&[b"\x01\x00", TWO, ONE, TIME, ZERO, ZERO], 1),
-    (&[b"\x01\x00", ONE, TWO, TIME, ZERO, ZERO], 1),
-    (&[FIRST, TIME, PAIRS, ZERO], 1),
-    (&[FIRST, TIME, ONE, TRIPLE, DOT, ZERO], 1),
-    (&[SECOND, LATER, ZERO, ONE, TRIPLE, ONE], 1),
-    (&[FIRST, TIME, ZERO, ONE, TRIPLE, TWO], 1),
+    (
+        "an insert of 40 bytes that stands twice",
+        &[FIRST, TIME, ZERO, TWO, TRIPLE, ONE, TRIPLE, ONE],
+        27 + 40,
+    ),
+    // Parts that are none of an entry.
+    (
+        "a first tick of 0",
+        &[b"\x01\x00", ZERO, ONE, TIME, ZERO, ZERO],
+        1,
+    ),
+    (
+        "a first tick above the last",
+        &[b"\x01\x00", TWO, ONE, TIME, ZERO, ZERO],
+        1,
+    ),
+    (
+        "a time without the last tick",
+        &[b"\x01\x00", ONE, TWO, TIME, ZERO, ZERO],
+        1,
+    ),
+    (
+        "a delete that the time doesn't cover",
+        &[FIRST, TIME, PAIRS, ZERO],
+        1,
+    ),
+    (
+        "a delete of the range",
+        &[FIRST, TIME, ONE, TRIPLE, DOT, ZERO],
+        1,
+    ),
+    (
+        "an insert before the range",
+        &[SECOND, LATER, ZERO, ONE, TRIPLE, ONE],
+        1,
+    ),
+    (
+        "an insert behind the range",
+        &[FIRST, TIME, ZERO, ONE, TRIPLE, TWO],
+        1,
+    ),
 ];
 
 // These pieces joined.
@@ -119,9 +170,9 @@ fn stops_at(alloc: Global, input: &[u8], place: usize) -> bool {
 
 #[test]
 fn faults_have_their_places(rt: HostRuntime) -> Result<(), Fail> {
-    for (pieces, wanted) in FAULTS {
+    for (what, pieces, place) in FAULTS {
         let input = joined(rt.alloc(), pieces)?;
-        assert!(rt; stops_at(rt.alloc(), &input, wanted), "{wanted}");
+        assert!(rt; stops_at(rt.alloc(), &input, *place), "{what}");
     }
     Ok(())
 }
