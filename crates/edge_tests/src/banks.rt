@@ -10,80 +10,81 @@ fn banks_of(alloc: Global, a: &[u8], b: &[u8]) -> Result<Box<MemoryBanks>, Alloc
     boxed(alloc, MemoryBanks::with_bytes(alloc, a, b)?)
 }
 
-/// Writes at the front of a side, and cuts the power before it is synced.
-fn write_and_crash<B: CrashBanks>(banks: &mut B, side: Side, piece: &[u8], leave: Leave) {
-    banks.arm(0, leave);
-    let _ = banks.write_at(side, 0, piece);
-    banks.revive();
-}
-
 /// Whether the sides have these bytes.
 fn have(banks: &MemoryBanks, a: &[u8], b: &[u8]) -> bool {
     banks.bytes(Side::A) == a && banks.bytes(Side::B) == b
 }
 
-/// What a side has, what is written at its front, how much of that the crash leaves, and what the side has then.
-type Crash = (&'static [u8], &'static [u8], Leave, &'static [u8]);
+/// Where pieces are written, and which.
+type Writes = &'static [(u64, &'static [u8])];
+
+/// What a side has, what is written to it without a sync, how many of these writes are done before one is caught, how much of them the
+/// crash leaves, what an arm says that comes too late, and what the side has then.
+type Crash = (&'static [u8], Writes, u32, Leave, Leave, &'static [u8]);
+
+const ONE: Writes = &[(0, b"VWXYZ")];
+
+const TWO: Writes = &[(0, b"VWXYZ"), (2, b"12345678")];
 
 const CRASHES: &[Crash] = &[
-    (b"abcdefg", b"VWXYZ", Leave::Lose, b"abcdefg"),
-    (b"abcdefg", b"VWXYZ", Leave::Keep, b"VWXYZfg"),
-    (b"abcdefg", b"VWXYZ", Leave::Torn, b"VW\xff\xff\xfffg"),
+    (b"abcdefg", ONE, 0, Leave::Lose, Leave::Keep, b"abcdefg"),
+    (b"abcdefg", ONE, 0, Leave::Keep, Leave::Torn, b"VWXYZfg"),
+    (
+        b"abcdefg",
+        ONE,
+        0,
+        Leave::Torn,
+        Leave::Lose,
+        b"VW\xff\xff\xfffg",
+    ),
     // A torn write goes past the end, and leaves a 0 nowhere.
-    (b"", b"vwxyz", Leave::Torn, b"vw\xff\xff\xff"),
-    (b"\x01", b"\x00", Leave::Torn, b"\xff"),
+    (b"", ONE, 0, Leave::Torn, Leave::Keep, b"VW\xff\xff\xff"),
+    (
+        b"\x01",
+        &[(0, b"\x00")],
+        0,
+        Leave::Torn,
+        Leave::Keep,
+        b"\xff",
+    ),
+    // Two writes overlap, and the second goes past the end.
+    (b"abcdefg", TWO, 1, Leave::Lose, Leave::Keep, b"abcdefg"),
+    (b"abcdefg", TWO, 1, Leave::Keep, Leave::Torn, b"VW12345678"),
+    (
+        b"abcdefg",
+        TWO,
+        1,
+        Leave::Torn,
+        Leave::Lose,
+        b"VW1234\xff\xff\xff\xff",
+    ),
 ];
 
-/// Whether a crash leaves what it should.
-fn is_left(alloc: Global, (first, piece, leave, left): Crash) -> Result<bool, AllocError> {
-    let mut banks = banks_of(alloc, first, b"other")?;
-    write_and_crash(&mut *banks, Side::A, piece, leave);
-    Ok(have(&banks, left, b"other"))
-}
-
-#[test]
-fn a_crash_leaves_what_was_asked(rt: HostRuntime) -> Result<(), Fail> {
-    for crash in CRASHES {
-        assert!(rt; is_left(rt.alloc(), *crash)?);
+/// Writes each piece to side A, where that has bytes up to its place, and crashes. A second arm behind the call that is caught changes
+/// nothing.
+fn write_and_crash(banks: &mut MemoryBanks, (_first, writes, done, leave, late, _left): Crash) {
+    banks.arm(done, leave);
+    for (place, piece) in writes {
+        if *place <= banks.bytes(Side::A).len() as u64 {
+            let _ = banks.write_at(Side::A, *place, piece);
+        }
     }
-    Ok(())
-}
-
-/// Writes twice with no sync between, once before the end and once past it, and crashes. A second arm
-/// behind the call that is caught changes nothing.
-fn write_twice_and_crash(banks: &mut MemoryBanks, leave: Leave, other: Leave) {
-    banks.arm(1, leave);
-    if banks.bytes(Side::A).len() != 7 {
-        return;
-    }
-    let _ = banks.write_at(Side::A, 0, b"VWXYZ");
-    if banks.bytes(Side::A).len() == 7 {
-        let _ = banks.write_at(Side::A, 2, b"12345678");
-    }
-    banks.arm(3, other);
+    banks.arm(3, late);
     banks.revive();
 }
 
-/// What a crash leaves, what an arm says that comes too late, and what the side has then.
-type TwoWrites = (Leave, Leave, &'static [u8]);
-
-const TWO_WRITES: &[TwoWrites] = &[
-    (Leave::Lose, Leave::Keep, b"abcdefg"),
-    (Leave::Keep, Leave::Torn, b"VW12345678"),
-    (Leave::Torn, Leave::Lose, b"VW1234\xff\xff\xff\xff"),
-];
-
-/// Whether a crash leaves what it should of two writes.
-fn is_left_of_two(alloc: Global, (leave, other, left): TwoWrites) -> Result<bool, AllocError> {
-    let mut banks = banks_of(alloc, b"abcdefg", b"other")?;
-    write_twice_and_crash(&mut banks, leave, other);
-    Ok(have(&banks, left, b"other"))
+/// Whether a crash leaves what it should, and nothing of it on the other side.
+fn is_left(alloc: Global, crash: Crash) -> Result<bool, AllocError> {
+    let mut banks = banks_of(alloc, crash.0, b"other")?;
+    write_and_crash(&mut banks, crash);
+    Ok(have(&banks, crash.5, b"other"))
 }
 
 #[test]
 fn a_crash_takes_all_unsynced_writes(rt: HostRuntime) -> Result<(), Fail> {
-    for writes in TWO_WRITES {
-        assert!(rt; is_left_of_two(rt.alloc(), *writes)?);
+    for crash in CRASHES {
+        let left = crash.5;
+        assert!(rt; is_left(rt.alloc(), *crash)?, "{left:?}");
     }
     Ok(())
 }

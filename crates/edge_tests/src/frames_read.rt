@@ -134,105 +134,147 @@ const BAD_BEHIND: &[u8] = b"\x01\x00\x00\x00\x16\x01\
     \x09\x00\x00\x00\x00";
 
 /// The fault of a bad frame at the front of a stream.
-const IS_BAD: FrameFault = FrameFault::BadFrame { place: 0 };
+const IS_BAD: Option<FrameFault> = Some(FrameFault::BadFrame { place: 0 });
 
 /// The fault of one that is too long there.
-const IS_LONG: FrameFault = FrameFault::TooLong { place: 0 };
+const IS_LONG: Option<FrameFault> = Some(FrameFault::TooLong { place: 0 });
 
-/// A stream, how many frames come first, and the fault behind them.
-type Faulty = (&'static [u8], usize, FrameFault);
+/// What a stream is, its bytes, how many frames come first, whether they are those of the greeting, and the fault behind them.
+type Stream = (&'static str, &'static [u8], usize, bool, Option<FrameFault>);
 
-const FAULTY: &[Faulty] = &[
-    (BAD_BEHIND, 1, FrameFault::BadFrame { place: 27 }),
-    // Bad frames: one of kind 0; a Hello of one byte, one whose text is cut short, one with a byte behind its text, and one whose text is
-    // no UTF-8; a part without bytes of a message; and a refusal without a code, and one with two.
-    (b"\x00\x00\x00\x00\x01\x01", 0, IS_BAD),
-    (b"\x01\x00\x00\x00\x01\x01", 0, IS_BAD),
+const STREAMS: &[Stream] = &[
     (
+        "a Hello, and a frame of no kind",
+        BAD_BEHIND,
+        1,
+        true,
+        Some(FrameFault::BadFrame { place: 27 }),
+    ),
+    (
+        "a frame of kind 0",
+        b"\x00\x00\x00\x00\x01\x01",
+        0,
+        true,
+        IS_BAD,
+    ),
+    (
+        "a Hello of one byte",
+        b"\x01\x00\x00\x00\x01\x01",
+        0,
+        true,
+        IS_BAD,
+    ),
+    (
+        "a Hello whose text is cut short",
         b"\x01\x00\x00\x00\x16\x010123456789abcdef\x00\x00\x00\x02d",
         0,
+        true,
         IS_BAD,
     ),
     (
+        "a Hello with a byte behind its text",
         b"\x01\x00\x00\x00\x16\x010123456789abcdef\x00\x00\x00\x00d",
         0,
+        true,
         IS_BAD,
     ),
     (
+        "a Hello whose text is no UTF-8",
         b"\x01\x00\x00\x00\x16\x010123456789abcdef\x00\x00\x00\x01\xff",
         0,
+        true,
         IS_BAD,
     ),
     (
+        "a part without bytes of a message",
         b"\x02\x00\x00\x00\x0c\x00\x00\x00\x00\x00\x00\x00\x00\x00\x00\x00\x01",
         0,
+        true,
         IS_BAD,
     ),
-    (b"\x06\x00\x00\x00\x00", 0, IS_BAD),
-    (b"\x06\x00\x00\x00\x02\x01\x01", 0, IS_BAD),
-    // Headers of frames that are too long, of a kind and of none.
-    (b"\x01\x00\x10\x00\x0d", 0, IS_LONG),
-    (b"\x09\xff\xff\xff\xff", 0, IS_LONG),
+    (
+        "a refusal without a code",
+        b"\x06\x00\x00\x00\x00",
+        0,
+        true,
+        IS_BAD,
+    ),
+    (
+        "a refusal with two codes",
+        b"\x06\x00\x00\x00\x02\x01\x01",
+        0,
+        true,
+        IS_BAD,
+    ),
+    (
+        "a Hello of 1,048,589 bytes",
+        b"\x01\x00\x10\x00\x0d",
+        0,
+        true,
+        IS_LONG,
+    ),
+    (
+        "a frame of no kind that is too long",
+        b"\x09\xff\xff\xff\xff",
+        0,
+        true,
+        IS_LONG,
+    ),
+    (
+        "a Hello of another format",
+        b"\x01\x00\x00\x00\x16\x020123456789abcdef\x00\x00\x00\x01d",
+        1,
+        false,
+        None,
+    ),
+    (
+        "a Hello whose text is no name of a domain",
+        b"\x01\x00\x00\x00\x16\x010123456789abcdef\x00\x00\x00\x01/",
+        1,
+        false,
+        None,
+    ),
+    (
+        "a request and replies without bytes",
+        b"\x03\x00\x00\x00\x00\x04\x00\x00\x00\x00\x05\x00\x00\x00\x00",
+        3,
+        false,
+        None,
+    ),
+    (
+        "the header of a request that is as long as may be",
+        b"\x03\x00\x10\x00\x0c",
+        0,
+        true,
+        None,
+    ),
 ];
 
-/// Whether a reader gives so many frames, each a Hello, and then this fault, which the stream's last byte tells.
-fn stops_with(
+/// Whether a reader gives so many frames, and then this fault, which the stream's last byte tells; or none.
+fn gives(
     alloc: Global,
     reader: &mut Frames,
-    (bytes, count, wanted): Faulty,
+    (_what, bytes, count, greets, wanted): Stream,
 ) -> Result<bool, Fail> {
     let (front, last) = bytes.split_at(bytes.len().saturating_sub(1));
     let mut given = NOTHING;
     let early = read_on(alloc, reader, front, &mut given)?;
     let fault = read_on(alloc, reader, last, &mut given)?;
-    let told = early.is_none() && fault == Some(wanted);
-    Ok(told && !reader.is_good() && given.count == count && given.greets)
+    let told = early.is_none() && fault == wanted && reader.is_good() == wanted.is_none();
+    Ok(told && given.count == count && given.greets == greets)
 }
 
 /// The same of a new reader.
-fn ends_in(alloc: Global, faulty: Faulty) -> Result<bool, Fail> {
+fn is_given(alloc: Global, stream: Stream) -> Result<bool, Fail> {
     let mut reader = boxed(alloc, Frames::new(alloc))?;
-    stops_with(alloc, &mut reader, faulty)
+    gives(alloc, &mut reader, stream)
 }
 
 #[test]
-fn faults_are_told_by_the_last_byte_they_need(rt: HostRuntime) -> Result<(), Fail> {
-    for faulty in FAULTY {
-        assert!(rt; ends_in(rt.alloc(), *faulty)?, "{faulty:?}");
-    }
-    Ok(())
-}
-
-/// Streams and how many frames they are: a Hello of another format, and one whose text is no name of a domain; a request and replies
-/// without bytes; and the header of a request that is as long as may be.
-const FINE: &[(&[u8], usize)] = &[
-    (
-        b"\x01\x00\x00\x00\x16\x020123456789abcdef\x00\x00\x00\x01d",
-        1,
-    ),
-    (
-        b"\x01\x00\x00\x00\x16\x010123456789abcdef\x00\x00\x00\x01/",
-        1,
-    ),
-    (
-        b"\x03\x00\x00\x00\x00\x04\x00\x00\x00\x00\x05\x00\x00\x00\x00",
-        3,
-    ),
-    (b"\x03\x00\x10\x00\x0c", 0),
-];
-
-/// Whether a stream in one piece has so many frames, and no fault.
-fn has_frames(alloc: Global, bytes: &[u8], count: usize) -> Result<bool, Fail> {
-    let mut reader = boxed(alloc, Frames::new(alloc))?;
-    let mut given = NOTHING;
-    let fault = read_on(alloc, &mut reader, bytes, &mut given)?;
-    Ok(fault.is_none() && reader.is_good() && given.count == count)
-}
-
-#[test]
-fn odd_frames_are_no_faults(rt: HostRuntime) -> Result<(), Fail> {
-    for (bytes, count) in FINE {
-        assert!(rt; has_frames(rt.alloc(), bytes, *count)?, "{bytes:?}");
+fn streams_have_frames_and_then_a_fault(rt: HostRuntime) -> Result<(), Fail> {
+    for stream in STREAMS {
+        let what = stream.0;
+        assert!(rt; is_given(rt.alloc(), *stream)?, "{what}");
     }
     Ok(())
 }

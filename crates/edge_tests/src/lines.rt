@@ -98,37 +98,6 @@ fn lines_are_read_up_to_the_end_or_a_fault(rt: HostRuntime) -> Result<(), Fail> 
     Ok(())
 }
 
-/// A reader that always fails.
-#[derive(Debug, Drop)]
-struct Broken;
-
-impl Read for Broken {
-    fn read(&mut self, _out: &mut [u8]) -> io::Result<usize> {
-        Err(io::Error::from(io::ErrorKind::Other))
-    }
-}
-
-/// Whether the lines of a reader of the standard library are read.
-fn reads_lines(alloc: Global) -> Result<bool, AllocError> {
-    let mut lines = reader(alloc, 10, 10)?;
-    let mut source = StdSource::new(b"x\ny".as_slice());
-    Ok(is_next(&mut lines, &mut source, Some(b"x")) && is_next(&mut lines, &mut source, Some(b"y")))
-}
-
-/// Whether there is no line of a reader that fails.
-fn stops_at_once(alloc: Global) -> Result<bool, AllocError> {
-    let mut lines = reader(alloc, 10, 10)?;
-    let mut source = StdSource::new(Broken);
-    Ok(stops(&mut lines, &mut source, LineFault::ReadFault))
-}
-
-#[test]
-fn readers_of_std_are_sources(rt: HostRuntime) -> Result<(), Fail> {
-    assert!(rt; reads_lines(rt.alloc())?);
-    assert!(rt; stops_at_once(rt.alloc())?);
-    Ok(())
-}
-
 /// A reader that gives three bytes by its first and its third read, fails at its second one, and
 /// then is at its end.
 #[derive(Debug, Drop)]
@@ -152,6 +121,27 @@ impl Read for Pieces {
         out[..3].copy_from_slice(piece);
         Ok(3)
     }
+}
+
+/// Whether the lines of a reader of the standard library are read.
+fn reads_lines(alloc: Global) -> Result<bool, AllocError> {
+    let mut lines = reader(alloc, 10, 10)?;
+    let mut source = StdSource::new(b"x\ny".as_slice());
+    Ok(is_next(&mut lines, &mut source, Some(b"x")) && is_next(&mut lines, &mut source, Some(b"y")))
+}
+
+/// Whether there is no line of a reader that fails.
+fn stops_at_once(alloc: Global) -> Result<bool, AllocError> {
+    let mut lines = reader(alloc, 10, 10)?;
+    let mut source = StdSource::new(Pieces { reads: 1 });
+    Ok(stops(&mut lines, &mut source, LineFault::ReadFault))
+}
+
+#[test]
+fn readers_of_std_are_sources(rt: HostRuntime) -> Result<(), Fail> {
+    assert!(rt; reads_lines(rt.alloc())?);
+    assert!(rt; stops_at_once(rt.alloc())?);
+    Ok(())
 }
 
 /// Whether one read gives these bytes, or fails.
