@@ -6,7 +6,7 @@ use op_fusion::{FuseFault, compact_entries, cut, fuse, has_neighbours};
 use rdf_terms::Triple;
 use std::alloc::{AllocError, Global};
 use std::test::Fail;
-use tree_clock::{Clock, Range};
+use tree_clock::Range;
 
 const T: &str = "<http://d/s> <http://d/p> <http://d/t> .";
 
@@ -174,28 +174,18 @@ fn is_cut(cut: &Cut, state: &Single, adds: &[Tagged]) -> bool {
     }
 }
 
-// Whether a change drops the pair of a set, and adds those of rows.
-fn is_cut_to(alloc: Global, cut: &Cut, state: &Single, rows: &[(&str, u32)]) -> Result<bool, Fail> {
-    let adds = pairs(alloc, rows)?;
-    Ok(is_cut(cut, state, &adds))
-}
-
-// What an entry changes in a set, where the dots of a clock are known.
-fn cut_by(alloc: Global, entry: &Entry, seen: &Clock, state: &Single) -> Result<Box<Cut>, Fail> {
-    Ok(boxed(alloc, cut(alloc, entry, seen, state)?)?)
-}
-
 // What the entry of a row changes in a set, where the ticks up to this one are known.
 fn cut_of(alloc: Global, row: &Row, tick: u32, state: &Single) -> Result<Box<Cut>, Fail> {
-    let seen = clock(alloc, tick)?;
+    let seen = boxed(alloc, clock(alloc, tick)?)?;
     let entry = entry(alloc, row)?;
-    cut_by(alloc, &entry, &seen, state)
+    Ok(boxed(alloc, cut(alloc, &entry, &seen, state)?)?)
 }
 
 // Whether the entry of a row drops the pair of a set, where the ticks up to this one are known, and adds all that the row inserts.
 fn cuts_to(alloc: Global, row: &Row, tick: u32, state: &Single) -> Result<bool, Fail> {
     let cut = cut_of(alloc, row, tick, state)?;
-    is_cut_to(alloc, &cut, state, row.inserts)
+    let adds = pairs(alloc, row.inserts)?;
+    Ok(is_cut(&cut, state, &adds))
 }
 
 // A set of the pair of a row.

@@ -81,22 +81,12 @@ fn boxed_triple(alloc: Global, line: &str) -> Result<Box<Triple>, Fail> {
     Ok(boxed(alloc, read_triple(alloc, line)?)?)
 }
 
-// Whether the pairs of a triple have ticks 2 and 7.
-fn has_pairs_of(alloc: Global, graph: &Graph, triple: &Triple) -> Result<bool, Fail> {
-    let pairs = graph.of_triple(alloc, triple)?;
-    Ok(have_ticks(&pairs, &[2, 7]))
-}
-
-// Whether the dots of a triple have ticks 2 and 7.
-fn has_dots_of(alloc: Global, graph: &Graph, triple: &Triple) -> Result<bool, Fail> {
-    let dots = graph.tags_of(alloc, triple)?;
-    Ok(dots.len() == 2 && dots[0].tick == 2 && dots[1].tick == 7)
-}
-
 // Whether the pairs of the first triple, and their dots, have ticks 2 and 7.
 fn has_tags(alloc: Global, graph: &Graph) -> Result<bool, Fail> {
     let triple = boxed_triple(alloc, XA)?;
-    Ok(has_pairs_of(alloc, graph, &triple)? && has_dots_of(alloc, graph, &triple)?)
+    let pairs = graph.of_triple(alloc, &triple)?;
+    let dots = graph.tags_of(alloc, &triple)?;
+    Ok(have_ticks(&pairs, &[2, 7]) && dots.len() == 2 && dots[0].tick == 2 && dots[1].tick == 7)
 }
 
 fn scanned_in<L: Ledger>(

@@ -71,16 +71,12 @@ fn one_is_left(alloc: Global, held: &mut Held) -> Result<bool, Fail> {
     Ok(taken && has_just(alloc, held, &[range(5, 6)])?)
 }
 
-// Whether entries wait in the order in which they come, and go as they should.
-fn wait_in_order(alloc: Global, held: &mut Held) -> Result<bool, Fail> {
-    Ok(all_wait(alloc, held)? && one_is_left(alloc, held)?)
-}
-
 #[test]
 fn entries_wait_in_order_of_arrival(rt: HostRuntime) -> Result<(), Fail> {
     let alloc = rt.alloc();
     let mut held = boxed(alloc, Held::empty(alloc))?;
-    assert!(rt; wait_in_order(alloc, &mut held)?);
+    assert!(rt; all_wait(alloc, &mut held)?);
+    assert!(rt; one_is_left(alloc, &mut held)?);
     Ok(())
 }
 

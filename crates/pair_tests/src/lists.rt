@@ -62,20 +62,20 @@ fn made(alloc: Global, end: u32) -> Result<Box<Chunked<Number>>, AllocError> {
     boxed(alloc, Chunked::from_vec(alloc, numbers)?)
 }
 
-// Whether a list that is made of no numbers has no chunk.
-fn is_none_made(alloc: Global) -> Result<bool, AllocError> {
-    let list = made(alloc, 0)?;
-    Ok(list.chunks().is_empty())
-}
-
 // Whether a list that is made of so many numbers has so many chunks, the last of them from this number on.
 fn is_made(alloc: Global, end: u32, chunks: usize, first: u32) -> Result<bool, AllocError> {
     let list = made(alloc, end)?;
-    Ok(has_chunk(&list, chunks, chunks.saturating_sub(1), first, end) && list.len() == end as usize)
+    let is_so = if chunks == 0 {
+        list.chunks().is_empty()
+    } else {
+        has_chunk(&list, chunks, chunks - 1, first, end)
+    };
+    Ok(is_so && list.len() == end as usize)
 }
 
 // How many numbers a list is made of, how many chunks it has, and the first number of the last one.
 const MADE: &[(u32, usize, u32)] = &[
+    (0, 0, 0),
     (1, 1, 0),
     (63, 1, 0),
     (64, 2, 63),
@@ -86,50 +86,64 @@ const MADE: &[(u32, usize, u32)] = &[
 #[test]
 fn lists_of_vectors_about_the_limit(rt: HostRuntime) -> Result<(), Fail> {
     for (end, chunks, first) in MADE {
-        assert!(rt; is_made(rt.alloc(), *end, *chunks, *first)?);
+        assert!(rt; is_made(rt.alloc(), *end, *chunks, *first)?, "{end}");
     }
-    assert!(rt; is_none_made(rt.alloc())?);
     Ok(())
 }
 
-// A chunk of 63 numbers splits by an insert at its first place; an insert behind all of them gets a chunk of its own.
-fn splits(alloc: Global, list: &mut Chunked<Number>) -> bool
+// The numbers from a first one to an end.
+type Span = (u32, u32);
+
+const NONE: Span = (0, 0);
+
+// Which numbers come in, and which go then; how many numbers and chunks there are behind that, and which numbers the chunk of a place has.
+type Step = (Span, Span, usize, usize, usize, Span);
+
+const STEPS: &[Step] = &[
+    // A chunk of 63 numbers splits by an insert at its first place; an insert behind all of them gets a chunk of its own.
+    ((1, 64), NONE, 63, 1, 0, (1, 64)),
+    ((0, 1), NONE, 64, 2, 0, (0, 32)),
+    ((64, 95), NONE, 95, 2, 1, (32, 95)),
+    ((95, 96), NONE, 96, 3, 1, (32, 95)),
+    (NONE, NONE, 96, 3, 2, (95, 96)),
+    // The last chunk goes with its only number; the one before it, which is full then, splits by an insert that isn't at its end.
+    (NONE, (95, 96), 95, 2, 1, (32, 95)),
+    (NONE, (50, 51), 94, 2, 0, (0, 32)),
+    ((95, 96), NONE, 95, 2, 0, (0, 32)),
+    ((50, 51), NONE, 96, 3, 1, (32, 64)),
+    (NONE, NONE, 96, 3, 2, (64, 96)),
+    // A chunk loses its last number, which comes back to its end; and the chunk behind it goes with all of its numbers.
+    (NONE, (31, 32), 95, 3, 0, (0, 31)),
+    ((31, 32), NONE, 96, 3, 0, (0, 32)),
+    (NONE, (32, 64), 64, 2, 1, (64, 96)),
+];
+
+// Whether a list is as it should be behind a step. The number 96 is never there.
+fn is_done(alloc: Global, list: &mut Chunked<Number>, step: Step) -> bool
     requires { IsAscending nat_cmp list.old.elements }
     ensures { IsAscending nat_cmp list.new.elements }
 {
-    fill(alloc, list, 1, 64)
-        && has_chunk(list, 1, 0, 1, 64)
-        && fill(alloc, list, 0, 1)
-        && has_chunk(list, 2, 0, 0, 32)
-        && fill(alloc, list, 64, 95)
-        && has_chunk(list, 2, 1, 32, 95)
-        && fill(alloc, list, 95, 96)
-        && has_chunk(list, 3, 1, 32, 95)
-        && has_chunk(list, 3, 2, 95, 96)
+    let (came, gone, count, chunks, at, span) = step;
+    let is_in = fill(alloc, list, came.0, came.1);
+    cut_out(list, gone.0, gone.1);
+    is_in
+        && list.len() == count
+        && has_chunk(list, chunks, at, span.0, span.1)
+        && list.contains(&BySize, &Number { value: span.0 })
+        && !list.contains(&BySize, &Number { value: 96 })
 }
 
-// The last chunk goes with its only number; the one before it, which is full then, splits by an insert that isn't at its end.
-fn splits_the_last(alloc: Global, list: &mut Chunked<Number>) -> bool
+// Whether a list that is empty at first is as it should be behind each step.
+fn are_done(alloc: Global, list: &mut Chunked<Number>) -> bool
     requires { IsAscending nat_cmp list.old.elements }
     ensures { IsAscending nat_cmp list.new.elements }
 {
-    cut_out(list, 95, 96);
-    let gone = has_chunk(list, 2, 1, 32, 95);
-    cut_out(list, 50, 51);
-    let split = fill(alloc, list, 95, 96) && list.chunks().len() == 2 && fill(alloc, list, 50, 51);
-    gone && split && has_chunk(list, 3, 1, 32, 64) && has_chunk(list, 3, 2, 64, 96)
-}
-
-// A chunk loses its last number, which comes back to its end; and the chunk behind it goes with all of its numbers.
-fn loses_a_chunk(alloc: Global, list: &mut Chunked<Number>) -> bool
-    requires { IsAscending nat_cmp list.old.elements }
-    ensures { IsAscending nat_cmp list.new.elements }
-{
-    cut_out(list, 31, 32);
-    let lost = has_chunk(list, 3, 0, 0, 31) && !list.contains(&BySize, &Number { value: 31 });
-    let back = fill(alloc, list, 31, 32) && has_chunk(list, 3, 0, 0, 32);
-    cut_out(list, 32, 64);
-    lost && back && has_chunk(list, 2, 1, 64, 96) && list.contains(&BySize, &Number { value: 31 })
+    for step in STEPS {
+        if !is_done(alloc, list, *step) {
+            return false;
+        }
+    }
+    true
 }
 
 // The numbers from 30 to 65 stand at the end of one chunk and at the front of the next.
@@ -171,19 +185,6 @@ fn has_under(
     Ok(found.len() == count)
 }
 
-// The chunks are as they are worked by hand, in a list that is empty at first.
-fn are_split(alloc: Global, list: &mut Chunked<Number>) -> bool
-    requires { IsAscending nat_cmp list.old.elements }
-    ensures { IsAscending nat_cmp list.new.elements }
-{
-    list.len() == 0
-        && splits(alloc, list)
-        && list.len() == 96
-        && splits_the_last(alloc, list)
-        && list.len() == 96
-        && loses_a_chunk(alloc, list)
-}
-
 // No chunk is left where all numbers go.
 fn is_emptied(list: &mut Chunked<Number>) -> bool
     requires { IsAscending nat_cmp list.old.elements }
@@ -196,7 +197,7 @@ fn is_emptied(list: &mut Chunked<Number>) -> bool
 fn chunks_split_and_go_at_their_borders(rt: HostRuntime) -> Result<(), Fail> {
     let alloc = rt.alloc();
     let mut list = boxed(alloc, Chunked::new(alloc))?;
-    assert!(rt; are_split(alloc, &mut list));
+    assert!(rt; are_done(alloc, &mut list));
     assert!(rt; is_found(alloc, &list)? && has_under(alloc, &list, 66, 34)?);
     assert!(rt; is_spanned(alloc, &list)?);
     assert!(rt; stands_at(&list, 31, 31) && stands_at(&list, 32, 64) && stands_at(&list, 63, 95));
