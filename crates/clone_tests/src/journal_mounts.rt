@@ -8,7 +8,7 @@ use std::alloc::{AllocError, Global};
 use std::test::Fail;
 
 /// Where the fields of `SIDE` begin.
-const STARTS: [u64; 24] = [
+const STARTS: &[u64] = &[
     0, 1, 5, 13, 29, 33, 34, 38, 39, 43, 47, 48, 49, 50, 54, 58, 62, 63, 67, 71, 75, 79, 111, 115,
 ];
 
@@ -53,8 +53,8 @@ fn mount_of(alloc: Global, a: &[u8], b: &[u8], call: u64) -> Result<Answer, Allo
 fn start_before(count: u64) -> u64 {
     let mut last = 0;
     for start in STARTS {
-        if start <= count {
-            last = start;
+        if *start <= count {
+            last = *start;
         }
     }
     last
@@ -99,26 +99,30 @@ const LATER: &[u8] = b"\x01mld1\x00\x00\x00\x00\x00\x00\x00\x02\
     \x00\x00\x00\x01d\x00\x00\x00\x00\x00\x00\x00\x00\x00\x00\x00\x00\x00\
     \x00";
 
+/// The bytes of both sides, and what a mount of them answers.
+type Sides = (&'static [u8], &'static [u8], Answer);
+
+const MOUNTS: &[Sides] = &[
+    (SIDE, b"", Answer::Found(1, 0)),
+    (b"\x00\x07", SIDE, Answer::Found(1, 0)),
+    (b"", b"", Answer::Empty),
+    (b"\x02mld1", b"\x00", Answer::Empty),
+    (TWICE, b"", Answer::Damaged(Side::A, 117)),
+    (FORKED, b"", Answer::Found(0, 2)),
+    (b"\x00", UNKNOWN, Answer::Damaged(Side::B, 48)),
+    // Where both are open the greater generation counts, but a damaged side is told.
+    (SIDE, SIDE, Answer::Damaged(Side::B, 5)),
+    (SIDE, LATER, Answer::Found(0, 0)),
+    (LATER, FORKED, Answer::Found(0, 0)),
+    (LATER, b"\x01mld1\x00", Answer::Damaged(Side::B, 5)),
+    (b"\x01mld1\x00", b"\x01", Answer::Damaged(Side::A, 5)),
+];
+
 #[test]
 fn both_sides_are_read_up_to_a_closed_gate(rt: HostRuntime) -> Result<(), Fail> {
-    let cases: [(&[u8], &[u8], Answer); 12] = [
-        (SIDE, b"", Answer::Found(1, 0)),
-        (b"\x00\x07", SIDE, Answer::Found(1, 0)),
-        (b"", b"", Answer::Empty),
-        (b"\x02mld1", b"\x00", Answer::Empty),
-        (TWICE, b"", Answer::Damaged(Side::A, 117)),
-        (FORKED, b"", Answer::Found(0, 2)),
-        (b"\x00", UNKNOWN, Answer::Damaged(Side::B, 48)),
-        // Where both are open the greater generation counts, but a damaged side is told.
-        (SIDE, SIDE, Answer::Damaged(Side::B, 5)),
-        (SIDE, LATER, Answer::Found(0, 0)),
-        (LATER, FORKED, Answer::Found(0, 0)),
-        (LATER, b"\x01mld1\x00", Answer::Damaged(Side::B, 5)),
-        (b"\x01mld1\x00", b"\x01", Answer::Damaged(Side::A, 5)),
-    ];
-    for (a, b, wanted) in cases {
+    for (a, b, wanted) in MOUNTS {
         let answer = mount_of(rt.alloc(), a, b, NEVER)?;
-        assert!(rt; answer == wanted, "{a:?} {b:?}");
+        assert!(rt; answer == *wanted, "{a:?} {b:?}");
     }
     Ok(())
 }

@@ -52,22 +52,26 @@ fn leaves<R: Threads + Sync>(
     Ok(ran.status == 0 && have_first(&ran.banks, a, b))
 }
 
+/// A schedule, and the bytes that it leaves on both sides of the first of the banks.
+type Replayed = (&'static [u8], &'static [u8], &'static [u8]);
+
+const SCHEDULES: &[Replayed] = &[
+    (
+        b"domain d clones 1\nadd 0 <http://d/a> <http://d/#p> \"x\" .\n",
+        ADDED,
+        b"",
+    ),
+    (
+        b"domain d clones 1\nadd 0 <http://d/a> <http://d/#p> \"x\" .\ntruncate 0 0\n",
+        ADDED,
+        TRUNCATED,
+    ),
+    (b"domain d clones 2\n", FORKED, b""),
+];
+
 #[test]
 fn a_side_has_the_bytes_of_its_format(rt: HostRuntime) -> Result<(), Fail> {
-    let cases: [(&[u8], &[u8], &[u8]); 3] = [
-        (
-            b"domain d clones 1\nadd 0 <http://d/a> <http://d/#p> \"x\" .\n",
-            ADDED,
-            b"",
-        ),
-        (
-            b"domain d clones 1\nadd 0 <http://d/a> <http://d/#p> \"x\" .\ntruncate 0 0\n",
-            ADDED,
-            TRUNCATED,
-        ),
-        (b"domain d clones 2\n", FORKED, b""),
-    ];
-    for (schedule, a, b) in cases {
+    for (schedule, a, b) in SCHEDULES {
         let is_so = leaves(&rt, rt.alloc(), schedule, a, b)?;
         assert!(rt; is_so, "{schedule:?}");
     }

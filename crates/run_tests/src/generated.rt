@@ -78,11 +78,13 @@ fn gives(alloc: Global, seed: u64, commands: u32, texts: &[&str]) -> Result<bool
     Ok(are(&lines, texts))
 }
 
+/// A seed, how many commands it is to have, and its lines.
+const SEEDS: &[(u64, u32, &[&str])] = &[(0, 18, OF_ZERO), (1, 18, OF_ONE), (u64::MAX, 3, OF_LAST)];
+
 #[test]
 fn a_seed_gives_its_lines(rt: HostRuntime) -> Result<(), Fail> {
-    let cases = [(0, 18, OF_ZERO), (1, 18, OF_ONE), (u64::MAX, 3, OF_LAST)];
-    for (seed, commands, texts) in cases {
-        let is_so = gives(rt.alloc(), seed, commands, texts)?;
+    for (seed, commands, texts) in SEEDS {
+        let is_so = gives(rt.alloc(), *seed, *commands, texts)?;
         assert!(rt; is_so, "{seed}");
     }
     Ok(())
