@@ -8,6 +8,10 @@ use crate::connection::PIECE_LIMIT;
 /// four.
 const HEAD: usize = 5;
 
+/// The length of the longest payload. What goes on in further frames, as a message in parts, has this length
+/// in all but the last one.
+const LONGEST: u32 = 1_048_588;
+
 /// How far the frame is that is under way on a connection.
 #[derive(Clone, Copy, Debug)]
 pub(crate) struct Framing {
@@ -16,12 +20,25 @@ pub(crate) struct Framing {
     /// What the bytes of its head give as a number, and once they are all there how many bytes of
     /// its payload are still to come.
     left: u32,
+    /// How many bytes its payload has, once its head is there.
+    length: u32,
+    /// How many bytes came that may still be kept for what they belong to: those of the frame under way, and
+    /// those of the longest frames right before it, which may be parts of one message.
+    pub(crate) kept: usize,
+    /// Whether there was a whole frame.
+    pub(crate) has_begun: bool,
 }
 
 impl Framing {
     /// The first frame, of which nothing came.
     pub(crate) fn new() -> Framing {
-        Framing { head: 0, left: 0 }
+        Framing {
+            head: 0,
+            left: 0,
+            length: 0,
+            kept: 0,
+            has_begun: false,
+        }
     }
 
     /// How many bytes may be read: those that its head lacks, or those that its payload lacks, as
@@ -38,18 +55,24 @@ impl Framing {
 
     /// These bytes of it came, no more than were wanted.
     pub(crate) fn advance(&mut self, bytes: &[u8]) {
+        self.kept = self.kept.saturating_add(bytes.len());
         if self.head < HEAD {
             for byte in bytes {
                 // The kind is shifted out by the length.
                 self.left = self.left.wrapping_mul(256) | u32::from(*byte);
             }
             self.head = self.head.saturating_add(bytes.len());
+            self.length = self.left;
         } else {
             let count = u32::try_from(bytes.len()).unwrap_or(u32::MAX);
             self.left = self.left.saturating_sub(count);
         }
         if self.head >= HEAD && self.left == 0 {
             self.head = 0;
+            self.has_begun = true;
+            if self.length != LONGEST {
+                self.kept = 0;
+            }
         }
     }
 }

@@ -1,13 +1,17 @@
 //! A node over TCP: a wire over sockets, and the run of a node over the words, the sockets and the files of its process.
 #![tactic(auto)]
 
+mod choosing;
 mod connection;
 mod framing;
+mod keepalive;
+mod limits;
 mod outbox;
 mod peer;
 mod processes;
 mod sockets;
 mod table;
+mod watch;
 mod wire;
 
 pub use processes::run_process;

@@ -5,9 +5,8 @@ use std::alloc::{AllocError, Global};
 use std::collections::VecDeque;
 use std::io::{ErrorKind, Write};
 
-/// How many bytes may wait on a connection behind the piece that is being sent, before one piece
-/// more is too much.
-const BEHIND_LIMIT: usize = 268_435_456;
+/// How many bytes a piece counts beside its own, for the room that it takes.
+const PIECE_COST: usize = 64;
 
 /// The pieces that wait to be sent on one connection, in order.
 #[derive(Drop)]
@@ -38,16 +37,16 @@ impl Outbox {
         self.pieces.is_empty()
     }
 
-    /// How many bytes wait.
-    pub(crate) fn len(&self) -> usize {
-        self.len
+    /// How many bytes what waits takes, about.
+    pub(crate) fn held(&self) -> usize {
+        let pieces = self.pieces.len().saturating_mul(PIECE_COST);
+        self.len.saturating_add(pieces)
     }
 
-    /// Whether one piece more is too much.
-    pub(crate) fn is_full(&self) -> bool {
+    /// How many bytes wait of the piece that is being sent.
+    pub(crate) fn first(&self) -> usize {
         let first = self.pieces.front().map_or(0, |piece| piece.len());
-        let all = self.len.saturating_add(self.sent);
-        all.saturating_sub(first) > BEHIND_LIMIT
+        first.saturating_sub(self.sent)
     }
 
     /// Puts a copy of the piece behind what waits.

@@ -17,7 +17,7 @@ use text_rules::Text;
 /// The status of a run that ended for want of memory.
 const NO_MEMORY: u8 = 5;
 
-/// The status of a run that didn't begin, since its words are none that the program knows.
+/// The status of a run that didn't begin, since its words are no text.
 const USAGE: u8 = 1;
 
 /// Runs a node over the words of the process, and gives its status. A status other than 0 is told
@@ -36,7 +36,8 @@ pub fn run_process<
 >(rt: &R) -> u8 {
     let status = match run_on_words(rt) {
         Ok(status) => status,
-        Err(error) => status_before(&error),
+        Err(error) if error.kind() == ErrorKind::OutOfMemory => NO_MEMORY,
+        Err(_) => USAGE,
     };
     if status != 0 {
         // Where standard error fails too, the status still tells.
@@ -89,12 +90,4 @@ fn ends_at<R: Alloc<A = Global> + Clock + Clone + Drop + Files<File = File> + Ne
     let wire = TcpWire::new(rt.clone()?, rt.alloc(), listen, peer)?;
     let banks = FileBanks::new(rt.clone()?, rt.alloc(), folder)?;
     Ok((wire, banks))
-}
-
-/// The status where there was no run: memory ran out, or the words are not text.
-fn status_before(error: &io::Error) -> u8 {
-    match error.kind() {
-        ErrorKind::OutOfMemory => NO_MEMORY,
-        _ => USAGE,
-    }
 }

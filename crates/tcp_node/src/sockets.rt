@@ -26,12 +26,12 @@ const FAREWELL: u64 = 10;
 pub(crate) struct Sockets {
     poll: Poll,
     events: Events,
-    table: Table,
+    pub(crate) table: Table,
 }
 
 impl Sockets {
     /// Listens on the first of the addresses that the text names and that can be listened on. The
-    /// text of a peer has to name an address, where nobody needs to be yet.
+    /// text of a peer has to be a name and a port; the name may be one that nobody knows yet.
     pub(crate) fn open<R: Net>(
         rt: &R,
         alloc: Global,
@@ -40,10 +40,7 @@ impl Sockets {
     ) -> Result<Sockets, IoFault> {
         let events = Events::with_capacity(alloc, EVENTS)?;
         let peer = match peer {
-            Some(address) => {
-                address.to_socket_addrs(rt).map_err(failed)?;
-                Some(Peer::new(alloc, format!(in alloc; "{address}")?))
-            }
+            Some(address) => Some(peer_at(rt, Peer::new(alloc, format!(in alloc; "{address}")?))?),
             None => None,
         };
         let poll = Poll::new(rt).map_err(failed)?;
@@ -55,7 +52,7 @@ impl Sockets {
         Ok(Sockets {
             poll,
             events,
-            table: Table::new(alloc, registry, listener, peer),
+            table: Table::new(alloc, registry, listener, peer)?,
         })
     }
 
@@ -64,9 +61,10 @@ impl Sockets {
         ensures sized { IfOk result IsSizedEvent }
     {
         for _ in 0..u64::MAX {
-            self.table.try_again(rt)?;
+            self.table.call_peer(rt)?;
             let timeout = self.table.timeout();
             self.wait(timeout)?;
+            self.table.look()?;
             if let Some(event) = self.table.take_turns()? {
                 return Ok(event);
             }
@@ -85,23 +83,13 @@ impl Sockets {
         Ok(())
     }
 
-    /// Sends the piece on a connection, or keeps it until it can be sent.
-    pub(crate) fn send(&mut self, number: u32, piece: &[u8]) -> Result<(), IoFault> {
-        Ok(self.table.send(number, piece)?)
-    }
-
-    /// Shuts a connection behind what was sent on it.
-    pub(crate) fn shut(&mut self, number: u32) {
-        self.table.shut(number);
-    }
-
-    /// Sends what still waits, for as long as it is taken.
+    /// Sends what still waits, for as long as it is taken, and drops what comes.
     pub(crate) fn finish<R: Clock>(&mut self, rt: &R) {
         let Ok(start) = Instant::now(rt) else {
             return;
         };
         for _ in 0..u64::MAX {
-            if self.table.flush() == 0 || self.wait(Some(Duration::from_secs(QUIET))).is_err() {
+            if self.table.part() || self.wait(Some(Duration::from_secs(QUIET))).is_err() {
                 return;
             }
             let late = start
@@ -111,6 +99,15 @@ impl Sockets {
                 return;
             }
         }
+    }
+}
+
+/// A node whose name was looked up, be it with success or not. A text that is none is a failure.
+fn peer_at<R: Net>(rt: &R, peer: Peer) -> Result<Peer, IoFault> {
+    let mut peer = peer;
+    match peer.look_up(rt, 0) {
+        Err(error) if error.kind() == ErrorKind::InvalidInput => Err(failed(error)),
+        Ok(()) | Err(_) => Ok(peer),
     }
 }
 

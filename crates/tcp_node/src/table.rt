@@ -2,15 +2,19 @@
 ghost use Rattle.std.specs.Prelude.{IfOk, IfSome};
 ghost use Rattle.tcp_node.specs.TcpWires.{IsSizedEvent};
 
-use crate::connection::Connection;
-use crate::peer::{PAUSE, Peer};
+use crate::choosing::{idlest_one, largest_one, late_one};
+use crate::connection::{Connection, PIECE_LIMIT};
+use crate::keepalive::watch_over;
+use crate::limits::{GROWTH, LOOK, PLACES};
+use crate::peer::Peer;
+use crate::watch::Watch;
 use mio::net::{TcpListener, TcpStream};
 use mio::{Interest, Registry, Token};
 use mld_io::{Event, IoFault};
 use std::alloc::{AllocError, Global};
 use std::collections::{BTreeMap, VecDeque};
-use std::io::ErrorKind;
-use std::net::Net;
+use std::io::{self, ErrorKind};
+use std::net::{Net, SocketAddr};
 use std::time::{Clock, Duration};
 
 /// The number under which the listener stands.
@@ -26,15 +30,19 @@ pub(crate) struct Table {
     alloc: Global,
     registry: Registry,
     listener: TcpListener,
-    /// Whether the listener waits for its turn.
-    queued: bool,
-    /// Whether a connection couldn't be accepted, for want of descriptors say.
+    /// Whether a connection couldn't be accepted, and no other one could go for it.
     held_up: bool,
     peer: Option<Peer>,
     connections: BTreeMap<u32, Connection>,
+    /// The numbers of what waits for its turn.
     turns: VecDeque<u32>,
     /// The number that was given last.
     last: u32,
+    watch: Watch,
+    /// When it was looked last for those that are late.
+    looked: u64,
+    /// How many bytes more than at the last look all connections may hold.
+    grown: usize,
 }
 
 impl Table {
@@ -44,18 +52,21 @@ impl Table {
         registry: Registry,
         listener: TcpListener,
         peer: Option<Peer>,
-    ) -> Table {
-        Table {
+    ) -> Result<Table, AllocError> {
+        Ok(Table {
             alloc,
             registry,
             listener,
-            queued: false,
             held_up: false,
             peer,
             connections: BTreeMap::new(alloc),
-            turns: VecDeque::new(alloc),
+            // There is room for each connection, the one that is called, the listener and the call.
+            turns: VecDeque::with_capacity(alloc, PLACES + 3)?,
             last: 0,
-        }
+            watch: Watch::new(),
+            looked: 0,
+            grown: 0,
+        })
     }
 
     /// How long to wait for what comes.
@@ -63,87 +74,100 @@ impl Table {
         if !self.turns.is_empty() {
             return Some(Duration::ZERO);
         }
-        if self.held_up || self.lacks_peer() {
-            return Some(Duration::from_millis(PAUSE));
-        }
-        None
+        let due = match &self.peer {
+            Some(peer) if !self.has_peer() => peer.due().saturating_sub(self.watch.now),
+            Some(_) => LOOK,
+            None if self.held_up || !self.connections.is_empty() => LOOK,
+            None => return None,
+        };
+        Some(Duration::from_millis(due.min(LOOK)))
     }
 
-    /// Whether there is a peer that is neither connected nor called.
-    fn lacks_peer(&self) -> bool {
-        match &self.peer {
-            None => false,
-            Some(peer) => !peer.is_called() && !self.is_open(peer.connection),
-        }
-    }
-
-    fn is_open(&self, number: Option<u32>) -> bool {
-        number
+    /// Whether there is a connection to the peer.
+    fn has_peer(&self) -> bool {
+        self.peer
+            .as_ref()
+            .and_then(|peer| peer.connection)
             .and_then(|number| self.connections.get(&number))
             .is_some_and(|connection| connection.is_open())
     }
 
-    /// Does again what didn't succeed before: calls the peer, and accepts connections.
-    pub(crate) fn try_again<R: Net + Clock>(&mut self, rt: &R) -> Result<(), AllocError> {
-        if self.lacks_peer()
-            && let Some(peer) = &mut self.peer
-            && let Some(mut stream) = peer.dial(rt)
+    /// Reads the clock, and calls the peer where that is due.
+    pub(crate) fn call_peer<R: Net + Clock>(&mut self, rt: &R) -> Result<(), AllocError> {
+        self.watch.turn(rt);
+        let now = self.watch.now;
+        let has_peer = self.has_peer();
+        let Some(peer) = &mut self.peer else {
+            return Ok(());
+        };
+        if has_peer {
+            peer.stay_up(now);
+        } else if peer.due() <= now
+            && let Some(address) = peer.begin_call(rt, now)
+        {
+            return self.call(rt, address);
+        }
+        Ok(())
+    }
+
+    /// Calls the peer at an address. Where no descriptor is left, a connection goes for it.
+    fn call<R: Net>(&mut self, rt: &R, address: SocketAddr) -> Result<(), AllocError> {
+        let called = match TcpStream::connect(rt, address) {
+            Err(error) if lacks_descriptors(&error) => {
+                self.make_place()?;
+                TcpStream::connect(rt, address)
+            }
+            called => called,
+        };
+        if let Ok(mut stream) = called
             && self
                 .registry
                 .register(&mut stream, token(CALL), both_ways())
                 .is_ok()
+            && let Some(peer) = &mut self.peer
         {
-            peer.await_answer(stream);
+            peer.stream = Some(stream);
         }
+        Ok(())
+    }
+
+    /// Once in a second, breaks off the connections that are late, and accepts again where that was held up.
+    pub(crate) fn look(&mut self) -> Result<(), AllocError> {
+        let now = self.watch.now;
+        if now.saturating_sub(self.looked) < LOOK {
+            return Ok(());
+        }
+        self.looked = now;
         if self.held_up {
             self.held_up = false;
             self.queue(LISTENER)?;
+        }
+        for _ in 0..self.connections.len() {
+            match late_one(&self.connections, &self.turns, now) {
+                Some(number) => self.break_off(number)?,
+                None => break,
+            }
         }
         Ok(())
     }
 
     /// What stands under this number waits for its turn.
     pub(crate) fn queue(&mut self, number: u32) -> Result<(), AllocError> {
-        if !self.is_queued(number) {
+        if !self.turns.contains(&number) {
             self.turns.push_back(number)?;
-            self.set_queued(number, true);
         }
         Ok(())
     }
 
-    /// Whether what stands under this number waits for its turn, or nothing stands there.
-    fn is_queued(&self, number: u32) -> bool {
-        match number {
-            LISTENER => self.queued,
-            CALL => self.peer.as_ref().is_none_or(|peer| peer.queued),
-            _ => self
-                .connections
-                .get(&number)
-                .is_none_or(|connection| connection.queued),
-        }
-    }
-
-    fn set_queued(&mut self, number: u32, queued: bool) {
-        if number == LISTENER {
-            self.queued = queued;
-        } else if number == CALL {
-            if let Some(peer) = &mut self.peer {
-                peer.queued = queued;
-            }
-        } else if let Some(connection) = self.connections.get_mut(&number) {
-            connection.queued = queued;
-        }
-    }
-
     /// Gives the turn to each that waits for it now, until one has an event.
-    pub(crate) fn take_turns(&mut self) -> Result<Option<Event>, IoFault>
+    pub(crate) fn take_turns(&mut self) -> Result<Option<Event>, AllocError>
         ensures sized { IfOk result (λ found. IfSome found IsSizedEvent) }
     {
         for _ in 0..self.turns.len() {
             let event = match self.turns.pop_front() {
                 None => return Ok(None),
                 Some(LISTENER) => self.accept()?,
-                Some(CALL) => self.answer()?,
+                Some(CALL) => self.answer(),
                 Some(number) => self.read(number)?,
             };
             if event.is_some() {
@@ -153,65 +177,82 @@ impl Table {
         Ok(None)
     }
 
-    /// Accepts one connection.
-    fn accept(&mut self) -> Result<Option<Event>, IoFault>
+    /// Accepts one connection, once there is a place for it.
+    fn accept(&mut self) -> Result<Option<Event>, AllocError>
         ensures sized { IfOk result (λ found. IfSome found IsSizedEvent) }
     {
-        self.queued = false;
+        if self.connections.len() >= PLACES {
+            self.make_way()?;
+            return Ok(None);
+        }
         match self.listener.accept() {
-            Ok((mut stream, _)) => {
+            Ok((stream, _)) => {
                 self.queue(LISTENER)?;
                 let number = self.free_number();
-                match self
-                    .registry
-                    .register(&mut stream, token(number), both_ways())
-                {
-                    Ok(()) => self.add(number, stream),
-                    Err(_) => Ok(None),
-                }
+                return Ok(self.add(number, stream, false));
             }
-            Err(error) if error.kind() == ErrorKind::WouldBlock => Ok(None),
-            Err(_) => {
-                self.held_up = true;
-                Ok(None)
+            Err(error) if error.kind() == ErrorKind::WouldBlock => {}
+            Err(error) if lacks_descriptors(&error) => self.make_way()?,
+            Err(_) => self.held_up = true,
+        }
+        Ok(None)
+    }
+
+    /// Has a connection go for one that comes, which is accepted behind that, or later where none goes.
+    fn make_way(&mut self) -> Result<(), AllocError> {
+        if self.make_place()? {
+            self.queue(LISTENER)?;
+        } else {
+            self.held_up = true;
+        }
+        Ok(())
+    }
+
+    /// Breaks off the connection that goes for another one, and tells whether there was one.
+    fn make_place(&mut self) -> Result<bool, AllocError> {
+        match idlest_one(&self.connections) {
+            Some(number) => {
+                self.break_off(number)?;
+                Ok(true)
             }
+            None => Ok(false),
         }
     }
 
     /// Takes the connection to the peer, where the call is answered.
-    fn answer(&mut self) -> Result<Option<Event>, IoFault>
-        ensures sized { IfOk result (λ found. IfSome found IsSizedEvent) }
+    fn answer(&mut self) -> Option<Event>
+        ensures sized { IfSome result IsSizedEvent }
     {
         let number = self.free_number();
-        let Some(peer) = &mut self.peer else {
-            return Ok(None);
-        };
-        let Some(mut stream) = peer.take_answer() else {
-            return Ok(None);
-        };
-        if self
-            .registry
-            .reregister(&mut stream, token(number), both_ways())
-            .is_err()
-        {
-            return Ok(None);
-        }
+        let peer = self.peer.as_mut()?;
+        let stream = peer.take_answer()?;
         peer.connection = Some(number);
-        self.add(number, stream)
+        self.add(number, stream, true)
     }
 
-    /// Takes up a connection.
-    fn add(&mut self, number: u32, stream: TcpStream) -> Result<Option<Event>, IoFault>
-        ensures sized { IfOk result (λ found. IfSome found IsSizedEvent) }
+    /// Adds a connection. Where it can't be watched or memory is wanting it is closed.
+    fn add(&mut self, number: u32, mut stream: TcpStream, called: bool) -> Option<Event>
+        ensures sized { IfSome result IsSizedEvent }
     {
+        let watched = if called {
+            self.registry
+                .reregister(&mut stream, token(number), both_ways())
+        } else {
+            self.registry
+                .register(&mut stream, token(number), both_ways())
+        };
+        if watched.is_err() {
+            return None;
+        }
         // Where this fails, small pieces may wait a while.
         let _ = stream.set_nodelay(true);
-        let connection = Connection::new(self.alloc, number, stream);
-        self.connections
-            .insert(number, connection)
-            .map_err(AllocError::from)?;
+        watch_over(&stream);
+        let connection = Connection::new(self.alloc, number, called, stream, self.watch.now);
+        if self.connections.insert(number, connection).is_err() {
+            return None;
+        }
         self.last = number;
-        Ok(Some(Event::Opened(number)))
+        Some(Event::Opened(number))
     }
 
     /// The next number that no connection has, from 1 to 2^32-2 and then from 1 again.
@@ -230,47 +271,84 @@ impl Table {
     }
 
     /// Reads once on a connection.
-    fn read(&mut self, number: u32) -> Result<Option<Event>, IoFault>
+    fn read(&mut self, number: u32) -> Result<Option<Event>, AllocError>
         ensures sized { IfOk result (λ found. IfSome found IsSizedEvent) }
     {
+        let now = self.watch.now;
         let Some(connection) = self.connections.get_mut(&number) else {
             return Ok(None);
         };
-        let turn = connection.turn(self.alloc)?;
+        let event = connection.turn(self.alloc, now);
+        let more = connection.more;
         if connection.is_over() {
             self.connections.remove(&number);
-        }
-        if turn.more {
+        } else if more {
             self.queue(number)?;
         }
-        Ok(turn.event)
+        self.grow(PIECE_LIMIT)?;
+        Ok(event)
     }
 
     /// Sends the piece, where the connection is open.
     pub(crate) fn send(&mut self, number: u32, piece: &[u8]) -> Result<(), AllocError> {
-        match self.connections.get_mut(&number) {
-            Some(connection) if connection.is_open() => connection.send(piece),
-            _ => Ok(()),
+        let now = self.watch.now;
+        let is_broken = match self.connections.get_mut(&number) {
+            Some(connection) if connection.is_open() => {
+                connection.send(piece, now);
+                connection.is_broken()
+            }
+            _ => return Ok(()),
+        };
+        if is_broken {
+            self.queue(number)?;
         }
+        self.grow(piece.len())
+    }
+
+    /// The connections may hold so many bytes more. While they hold too much, the one that holds most is broken
+    /// off.
+    fn grow(&mut self, bytes: usize) -> Result<(), AllocError> {
+        self.grown = self.grown.saturating_add(bytes);
+        if self.grown < GROWTH {
+            return Ok(());
+        }
+        self.grown = 0;
+        for _ in 0..self.connections.len() {
+            match largest_one(&self.connections) {
+                Some(number) => self.break_off(number)?,
+                None => break,
+            }
+        }
+        Ok(())
+    }
+
+    /// Breaks off a connection. That it is shut is told at its turn.
+    fn break_off(&mut self, number: u32) -> Result<(), AllocError> {
+        if let Some(connection) = self.connections.get_mut(&number) {
+            connection.break_off();
+        }
+        self.queue(number)
     }
 
     /// Shuts the connection, where it is open.
     pub(crate) fn shut(&mut self, number: u32) {
+        let now = self.watch.now;
         if let Some(connection) = self.connections.get_mut(&number)
             && connection.is_open()
         {
-            connection.leave();
+            connection.leave(now);
         }
     }
 
-    /// Sends what the connections take at once, and tells how many bytes still wait.
-    pub(crate) fn flush(&mut self) -> usize {
-        let mut left = 0usize;
+    /// Sends what the connections take at once, and drops what comes. Whether all of them may be closed.
+    pub(crate) fn part(&mut self) -> bool {
+        let (alloc, now) = (self.alloc, self.watch.now);
+        let mut is_done = true;
         for connection in self.connections.values_mut() {
-            connection.flush();
-            left = left.saturating_add(connection.waiting());
+            let may_close = connection.part(alloc, now);
+            is_done = is_done && may_close;
         }
-        left
+        is_done
     }
 }
 
@@ -282,4 +360,9 @@ pub(crate) fn token(number: u32) -> Token {
 /// What a socket is watched for.
 pub(crate) fn both_ways() -> Interest {
     Interest::READABLE | Interest::WRITABLE
+}
+
+/// Whether a call failed since no descriptor is left for it.
+fn lacks_descriptors(error: &io::Error) -> bool {
+    error.raw_os_error() == Some(libc::EMFILE)
 }

@@ -26,7 +26,8 @@ pub struct TcpWire<R> {
 impl<R: Net + Clock + Drop> TcpWire<R> {
     /// A wire that listens on an address and calls a peer, with no event and no fault so far. Each
     /// is a host's name or an IP address, a colon and a port. A peer that isn't there, or whose
-    /// connection ends, is called again, up to four times in a second.
+    /// connection ends, is called again behind a pause of 250 milliseconds, which grows up to 30
+    /// seconds.
     pub fn new(
         rt: R,
         alloc: Global,
@@ -52,13 +53,15 @@ impl<R: Net + Clock + Drop> TcpWire<R> {
         })
     }
 
-    /// Sends what still waits on the connections, and ends once all is sent, nothing of it was taken
-    /// for a second, or ten seconds are over. Called before the wire is dropped.
+    /// Sends what still waits on the connections, and drops what comes. Ends once nothing is left to do,
+    /// nothing was reported for a second, or ten seconds are over. Called before the wire is dropped.
     pub fn finish(&mut self)
         ensures taken { count_of_taken self.new ≡ count_of_taken self.old }
         ensures faults { faults_of self.new ≡ faults_of self.old }
     {
-        self.ends.finish();
+        if let Some(sockets) = &mut self.ends.sockets {
+            sockets.finish(&self.ends.rt);
+        }
     }
 }
 
@@ -80,7 +83,9 @@ impl<R: Net + Clock + Drop> Wire for TcpWire<R> {
     }
 
     fn shut(&mut self, conn: u32) {
-        self.ends.shut(conn);
+        if let Some(sockets) = &mut self.ends.sockets {
+            sockets.table.shut(conn);
+        }
     }
 }
 
@@ -130,20 +135,8 @@ impl<R: Net + Clock + Drop> Ends<R> {
     fn send(&mut self, conn: u32, piece: &[u8]) -> Result<(), IoFault> {
         self.open()?;
         match &mut self.sockets {
-            Some(sockets) => sockets.send(conn, piece),
+            Some(sockets) => Ok(sockets.table.send(conn, piece)?),
             None => Err(IoFault::Failed),
-        }
-    }
-
-    fn shut(&mut self, conn: u32) {
-        if let Some(sockets) = &mut self.sockets {
-            sockets.shut(conn);
-        }
-    }
-
-    fn finish(&mut self) {
-        if let Some(sockets) = &mut self.sockets {
-            sockets.finish(&self.rt);
         }
     }
 
