@@ -220,6 +220,70 @@ fn calls_its_peer(rt: HostRuntime) -> Result<(), Fail> {
     Ok(())
 }
 
+/// Whether a wire gives what one client sent, and leaves unread what another one sent that reads nothing.
+fn leaves_unread(
+    wire: &mut TestWire,
+    one: &mut TcpStream,
+    other: &mut TcpStream,
+    piece: &[u8],
+) -> bool
+    requires { count_of_taken wire.old < 2 ^ 63 }
+{
+    let waits = wire.send(1, piece).is_ok() && wire.send(1, piece).is_ok();
+    let sent = one.write_all(b"a").is_ok() && other.write_all(b"b").is_ok();
+    waits && sent && next_of(wire) == Given::Bytes(2, 1)
+}
+
+/// Whether a wire on which much waits for one client serves another one.
+fn serves_readers(rt: &HostRuntime, wire: &mut TestWire, address: SocketAddr) -> Result<bool, Fail>
+    requires { count_of_taken wire.old ≡ 0 }
+{
+    let mut one = TcpStream::connect(rt, address)?;
+    let opened = next_of(wire) == Given::Opened(1);
+    let mut other = TcpStream::connect(rt, address)?;
+    let piece = sevens(rt.alloc(), 10_000_000)?;
+    Ok(
+        opened
+            && next_of(wire) == Given::Opened(2)
+            && leaves_unread(wire, &mut one, &mut other, &piece),
+    )
+}
+
+/// A client that doesn't read what waits for it isn't read, though it sent first.
+#[test]
+fn reads_no_client_that_reads_nothing(rt: HostRuntime) -> Result<(), Fail> {
+    let address = free_address(&rt)?;
+    let mut wire = listening(&rt, address)?;
+    assert!(rt; serves_readers(&rt, &mut wire, address)?);
+    Ok(())
+}
+
+/// Whether a wire answers a client that sent more than was taken, and shut its side then.
+fn answers_first(wire: &mut TestWire, client: &mut TcpStream) -> bool
+    requires { count_of_taken wire.old < 2 ^ 63 }
+{
+    let opened = next_of(wire) == Given::Opened(1);
+    let asked = client
+        .write_all(b"\x03\0\0\0\0\x03\0\0\0\0\x03\0\0\0\0")
+        .is_ok();
+    let given = next_of(wire) == Given::Bytes(1, 5);
+    let ended = client.shutdown(Shutdown::Write).is_ok();
+    opened && asked && given && ended && wire.send(1, b"last").is_ok()
+}
+
+/// What was answered comes, whatever was sent behind it that nobody takes any more.
+#[test]
+fn ends_behind_its_answers(rt: HostRuntime) -> Result<(), Fail> {
+    let address = free_address(&rt)?;
+    let mut wire = listening(&rt, address)?;
+    let mut client = TcpStream::connect(&rt, address)?;
+    assert!(rt; answers_first(&mut wire, &mut client));
+    wire.finish();
+    drop(wire);
+    assert!(rt; hears(&mut client, b"last") && reads(&mut client, 0));
+    Ok(())
+}
+
 /// How many bytes a client reads where its wire is asked to send on after each read.
 fn read_slowly(
     wire: &mut TestWire,
@@ -268,6 +332,26 @@ fn keeps_what_waits(rt: HostRuntime) -> Result<(), Fail> {
     let mut wire = listening(&rt, address)?;
     assert!(rt; keeps(&rt, &mut wire, address)?);
     wire.finish();
+    Ok(())
+}
+
+/// Whether a wire serves a client, while nobody knows the name of its peer.
+fn serves_alone(rt: &HostRuntime, wire: &mut TestWire, address: SocketAddr) -> io::Result<bool>
+    requires { count_of_taken wire.old ≡ 0 }
+{
+    let opened = wire.send(7, b"nobody").is_ok();
+    let mut client = TcpStream::connect(rt, address)?;
+    let asked = client.write_all(b"abc").is_ok();
+    Ok(opened && asked && next_of(wire) == Given::Opened(1) && gives(wire, 1, b"abc"))
+}
+
+/// A peer's name that can't be looked up is no fault.
+#[test]
+fn serves_without_its_peer(rt: HostRuntime) -> Result<(), Fail> {
+    let address = free_address(&rt)?;
+    let text = format!(in rt.alloc(); "{address}")?;
+    let mut wire = wire_on(&rt, text.as_str(), Some("no..name:7"))?;
+    assert!(rt; serves_alone(&rt, &mut wire, address)?);
     Ok(())
 }
 
