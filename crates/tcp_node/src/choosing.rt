@@ -4,14 +4,15 @@ use crate::connection::Connection;
 use crate::limits::HELD_LIMIT;
 use std::collections::{BTreeMap, VecDeque};
 
-/// The first connection that is late, and doesn't wait for its turn.
+/// The first connection that is late, and waits for its turn in neither of these lists.
 pub(crate) fn late_one(
     connections: &BTreeMap<u32, Connection>,
     turns: &VecDeque<u32>,
+    modest: &VecDeque<u32>,
     now: u64,
 ) -> Option<u32> {
     for (number, connection) in connections {
-        if connection.is_late(now) && !turns.contains(number) {
+        if connection.is_late(now) && !turns.contains(number) && !modest.contains(number) {
             return Some(*number);
         }
     }

@@ -7,6 +7,7 @@ ghost use Rattle.tcp_node.specs.TcpWires.{IsSizedEvent};
 use crate::framing::Framing;
 use crate::limits::{GREETING, PARTING, STANDSTILL, UNREAD_LIMIT};
 use crate::outbox::Outbox;
+use crate::rest::MUCH;
 use mio::net::TcpStream;
 use mld_io::{Event, Piece};
 use std::alloc::{AllocError, Global};
@@ -53,6 +54,8 @@ pub(crate) struct Connection {
     /// When something last went on: it came to its stage, bytes of it went out, or bytes came behind its first
     /// frame.
     since: u64,
+    /// How many milliseconds the node works for an event of it, about.
+    cost: u64,
 }
 
 impl Connection {
@@ -75,6 +78,7 @@ impl Connection {
             more: false,
             dropped: 0,
             since: now,
+            cost: 0,
         }
     }
 
@@ -114,6 +118,20 @@ impl Connection {
             Stage::Open => 2,
         };
         Some((kind, self.since))
+    }
+
+    /// Whether it is known to ask for little: its frames are short, and the node has little work for them. So it
+    /// is of one that was called.
+    pub(crate) fn is_modest(&self) -> bool {
+        let is_short = (self.framing.length as usize) <= PIECE_LIMIT;
+        self.called || self.framing.has_begun && is_short && self.cost < MUCH
+    }
+
+    /// The node worked so long for an event of it. Gives what its events cost from now on, about.
+    pub(crate) fn note_cost(&mut self, spent: u64) -> u64 {
+        let less = (self.cost / 8).saturating_add(1);
+        self.cost = self.cost.saturating_sub(less).max(spent);
+        self.cost
     }
 
     /// Whether nothing went on for as long as the other end has time.

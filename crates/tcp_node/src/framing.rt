@@ -21,7 +21,7 @@ pub(crate) struct Framing {
     /// its payload are still to come.
     left: u32,
     /// How many bytes its payload has, once its head is there.
-    length: u32,
+    pub(crate) length: u32,
     /// How many bytes came that may still be kept for what they belong to: those of the frame under way, and
     /// those of the longest frames right before it, which may be parts of one message.
     pub(crate) kept: usize,

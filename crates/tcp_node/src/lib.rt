@@ -9,6 +9,7 @@ mod limits;
 mod outbox;
 mod peer;
 mod processes;
+mod rest;
 mod sockets;
 mod table;
 mod watch;

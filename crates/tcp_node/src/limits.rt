@@ -3,6 +3,9 @@
 /// How many connections there are when one has to go. One that is called comes beside them.
 pub(crate) const PLACES: usize = 1_024;
 
+/// How many turns of the others come at most before one that asks for little has a turn.
+pub(crate) const OTHERS: u64 = 8;
+
 /// How many bytes all connections may hold together, but for the longest piece that is being sent.
 pub(crate) const HELD_LIMIT: usize = 268_435_456;
 

@@ -11,7 +11,7 @@ use std::fs::{File, Files};
 use std::io::{self, ErrorKind};
 use std::net::Net;
 use std::thread::Threads;
-use std::time::Clock;
+use std::time::{Clock, CpuClock};
 use text_rules::Text;
 
 /// The status of a run that ended for want of memory.
@@ -26,6 +26,7 @@ pub fn run_process<
     R: Alloc<A = Global>
         + Clock
         + Clone
+        + CpuClock
         + Drop
         + Env
         + Eprint
@@ -49,7 +50,16 @@ pub fn run_process<
 /// The status of the node over the words of the process, TCP and the files of its folder. What it
 /// sent last goes out before it ends.
 fn run_on_words<
-    R: Alloc<A = Global> + Clock + Clone + Drop + Env + Files<File = File> + Net + Threads + Sync,
+    R: Alloc<A = Global>
+        + Clock
+        + Clone
+        + CpuClock
+        + Drop
+        + Env
+        + Files<File = File>
+        + Net
+        + Threads
+        + Sync,
 >(rt: &R) -> io::Result<u8> {
     let mut words = Vec::new(rt.alloc());
     for word in env::args(rt)?.skip(1) {
@@ -63,7 +73,7 @@ fn run_on_words<
 
 /// The sockets and the banks that the words name; where they name none, those of empty texts, each
 /// call of which would fail.
-fn ends_of<R: Alloc<A = Global> + Clock + Clone + Drop + Files<File = File> + Net>(
+fn ends_of<R: Alloc<A = Global> + Clock + Clone + CpuClock + Drop + Files<File = File> + Net>(
     rt: &R,
     words: &Vec<String>,
 ) -> Result<(TcpWire<R>, FileBanks<R>), AllocError>
@@ -79,7 +89,7 @@ fn ends_of<R: Alloc<A = Global> + Clock + Clone + Drop + Files<File = File> + Ne
 }
 
 /// The sockets at these addresses and the banks in this folder.
-fn ends_at<R: Alloc<A = Global> + Clock + Clone + Drop + Files<File = File> + Net>(
+fn ends_at<R: Alloc<A = Global> + Clock + Clone + CpuClock + Drop + Files<File = File> + Net>(
     rt: &R,
     folder: &str,
     listen: &str,

@@ -10,7 +10,7 @@ use mld_io::{Event, IoFault};
 use std::alloc::Global;
 use std::io::{self, ErrorKind};
 use std::net::{Net, ToSocketAddrs};
-use std::time::{Clock, Duration, Instant};
+use std::time::{Clock, CpuClock, Duration, Instant};
 
 /// How many sockets one wait tells of.
 const EVENTS: usize = 256;
@@ -57,15 +57,17 @@ impl Sockets {
     }
 
     /// Waits for the next event.
-    pub(crate) fn next<R: Net + Clock>(&mut self, rt: &R) -> Result<Event, IoFault>
+    pub(crate) fn next<R: Net + Clock + CpuClock>(&mut self, rt: &R) -> Result<Event, IoFault>
         ensures sized { IfOk result IsSizedEvent }
     {
+        self.table.settle(rt);
         for _ in 0..u64::MAX {
             self.table.call_peer(rt)?;
             let timeout = self.table.timeout();
             self.wait(timeout)?;
-            self.table.look()?;
+            self.table.look(rt)?;
             if let Some(event) = self.table.take_turns()? {
+                self.table.begin(rt);
                 return Ok(event);
             }
         }

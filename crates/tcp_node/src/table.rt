@@ -5,9 +5,10 @@ ghost use Rattle.tcp_node.specs.TcpWires.{IsSizedEvent};
 use crate::choosing::{idlest_one, largest_one, late_one};
 use crate::connection::{Connection, PIECE_LIMIT};
 use crate::keepalive::watch_over;
-use crate::limits::{GROWTH, LOOK, PLACES};
+use crate::limits::{GROWTH, LOOK, OTHERS, PLACES};
 use crate::peer::Peer;
-use crate::watch::Watch;
+use crate::rest::Rest;
+use crate::watch::{Watch, worked};
 use mio::net::{TcpListener, TcpStream};
 use mio::{Interest, Registry, Token};
 use mld_io::{Event, IoFault};
@@ -15,7 +16,7 @@ use std::alloc::{AllocError, Global};
 use std::collections::{BTreeMap, VecDeque};
 use std::io::{self, ErrorKind};
 use std::net::{Net, SocketAddr};
-use std::time::{Clock, Duration};
+use std::time::{Clock, CpuClock, Duration};
 
 /// The number under which the listener stands.
 pub(crate) const LISTENER: u32 = 0;
@@ -36,6 +37,15 @@ pub(crate) struct Table {
     connections: BTreeMap<u32, Connection>,
     /// The numbers of what waits for its turn.
     turns: VecDeque<u32>,
+    /// Those of connections that wait for it and ask for little.
+    modest: VecDeque<u32>,
+    /// How many turns of the others there were behind the last turn of one of these.
+    others: u64,
+    /// The number whose event was given last, and who has no turn behind it for a while.
+    served: u32,
+    rest: Rest,
+    /// What the node had worked when that was given.
+    worked: u64,
     /// The number that was given last.
     last: u32,
     watch: Watch,
@@ -62,6 +72,11 @@ impl Table {
             connections: BTreeMap::new(alloc),
             // There is room for each connection, the one that is called, the listener and the call.
             turns: VecDeque::with_capacity(alloc, PLACES + 3)?,
+            modest: VecDeque::with_capacity(alloc, PLACES + 3)?,
+            others: 0,
+            served: LISTENER,
+            rest: Rest::new(),
+            worked: 0,
             last: 0,
             watch: Watch::new(),
             looked: 0,
@@ -71,8 +86,12 @@ impl Table {
 
     /// How long to wait for what comes.
     pub(crate) fn timeout(&self) -> Option<Duration> {
-        if !self.turns.is_empty() {
+        if !self.modest.is_empty() {
             return Some(Duration::ZERO);
+        }
+        if !self.turns.is_empty() {
+            let rest = self.rest.until.saturating_sub(self.watch.now);
+            return Some(Duration::from_millis(rest));
         }
         let due = match &self.peer {
             Some(peer) if !self.has_peer() => peer.due().saturating_sub(self.watch.now),
@@ -92,9 +111,24 @@ impl Table {
             .is_some_and(|connection| connection.is_open())
     }
 
-    /// Reads the clock, and calls the peer where that is due.
-    pub(crate) fn call_peer<R: Net + Clock>(&mut self, rt: &R) -> Result<(), AllocError> {
+    /// An event is given.
+    pub(crate) fn begin<R: CpuClock>(&mut self, rt: &R) {
+        self.worked = worked(rt);
+    }
+
+    /// The event that was given last is done. What the node worked since is what it cost.
+    pub(crate) fn settle<R: Clock + CpuClock>(&mut self, rt: &R) {
+        let spent = worked(rt).saturating_sub(self.worked);
         self.watch.turn(rt);
+        if let Some(connection) = self.connections.get_mut(&self.served) {
+            let cost = connection.note_cost(spent);
+            self.rest.note(self.served, spent, cost, self.watch.now);
+        }
+        self.served = LISTENER;
+    }
+
+    /// Calls the peer where that is due.
+    pub(crate) fn call_peer<R: Net>(&mut self, rt: &R) -> Result<(), AllocError> {
         let now = self.watch.now;
         let has_peer = self.has_peer();
         let Some(peer) = &mut self.peer else {
@@ -131,8 +165,10 @@ impl Table {
         Ok(())
     }
 
-    /// Once in a second, breaks off the connections that are late, and accepts again where that was held up.
-    pub(crate) fn look(&mut self) -> Result<(), AllocError> {
+    /// Reads the clock. Once in a second, breaks off the connections that are late, and accepts again where that
+    /// was held up.
+    pub(crate) fn look<R: Clock>(&mut self, rt: &R) -> Result<(), AllocError> {
+        self.watch.turn(rt);
         let now = self.watch.now;
         if now.saturating_sub(self.looked) < LOOK {
             return Ok(());
@@ -143,7 +179,7 @@ impl Table {
             self.queue(LISTENER)?;
         }
         for _ in 0..self.connections.len() {
-            match late_one(&self.connections, &self.turns, now) {
+            match late_one(&self.connections, &self.turns, &self.modest, now) {
                 Some(number) => self.break_off(number)?,
                 None => break,
             }
@@ -153,24 +189,51 @@ impl Table {
 
     /// What stands under this number waits for its turn.
     pub(crate) fn queue(&mut self, number: u32) -> Result<(), AllocError> {
-        if !self.turns.contains(&number) {
+        if self.turns.contains(&number) || self.modest.contains(&number) {
+            return Ok(());
+        }
+        if self
+            .connections
+            .get(&number)
+            .is_some_and(|connection| connection.is_modest())
+        {
+            self.modest.push_back(number)?;
+        } else {
             self.turns.push_back(number)?;
         }
         Ok(())
+    }
+
+    /// The number whose turn it is, where it is that of any.
+    fn next_number(&mut self) -> Option<u32> {
+        let rests = self.watch.now < self.rest.until;
+        let is_modest = rests || self.turns.is_empty() || self.others >= OTHERS;
+        if is_modest && !self.modest.is_empty() {
+            self.others = 0;
+            return self.modest.pop_front();
+        }
+        if rests {
+            return None;
+        }
+        self.others = self.others.saturating_add(1);
+        self.turns.pop_front()
     }
 
     /// Gives the turn to each that waits for it now, until one has an event.
     pub(crate) fn take_turns(&mut self) -> Result<Option<Event>, AllocError>
         ensures sized { IfOk result (λ found. IfSome found IsSizedEvent) }
     {
-        for _ in 0..self.turns.len() {
-            let event = match self.turns.pop_front() {
-                None => return Ok(None),
-                Some(LISTENER) => self.accept()?,
-                Some(CALL) => self.answer(),
-                Some(number) => self.read(number)?,
+        for _ in 0..self.turns.len().saturating_add(self.modest.len()) {
+            let Some(number) = self.next_number() else {
+                break;
+            };
+            let event = match number {
+                LISTENER => self.accept()?,
+                CALL => self.answer(),
+                _ => self.read(number)?,
             };
             if event.is_some() {
+                self.served = number;
                 return Ok(event);
             }
         }

@@ -1,7 +1,7 @@
 //! The time of a wire.
 
 use crate::limits::STEP;
-use std::time::Clock;
+use std::time::{Clock, CpuClock};
 
 /// Counts milliseconds by a clock. Between two readings no more than a few go by, however long it was: while
 /// the node is at work for one connection, no other gets late.
@@ -28,5 +28,13 @@ impl Watch {
         let step = read.saturating_sub(self.read).min(STEP);
         self.now = self.now.saturating_add(step);
         self.read = read;
+    }
+}
+
+/// How many milliseconds of a processor the program had. Where that can't be read it is none.
+pub(crate) fn worked<R: CpuClock>(rt: &R) -> u64 {
+    match rt.process_cpu_time() {
+        Ok(time) => u64::try_from(time.as_millis()).unwrap_or(u64::MAX),
+        Err(_) => 0,
     }
 }

@@ -8,7 +8,7 @@ use crate::sockets::Sockets;
 use mld_io::{Event, IoFault, Wire};
 use std::alloc::{AllocError, Global};
 use std::net::Net;
-use std::time::Clock;
+use std::time::{Clock, CpuClock};
 
 /// Connections over TCP: those that others open on an address, and one to a peer. It opens its
 /// sockets at the first call of `next` or `send`, and tries again at the next one where that
@@ -23,7 +23,7 @@ pub struct TcpWire<R> {
     faults: u64,
 }
 
-impl<R: Net + Clock + Drop> TcpWire<R> {
+impl<R: Net + Clock + CpuClock + Drop> TcpWire<R> {
     /// A wire that listens on an address and calls a peer, with no event and no fault so far. Each
     /// is a host's name or an IP address, a colon and a port. A peer that isn't there, or whose
     /// connection ends, is called again behind a pause of 250 milliseconds, which grows up to 30
@@ -65,7 +65,7 @@ impl<R: Net + Clock + Drop> TcpWire<R> {
     }
 }
 
-impl<R: Net + Clock + Drop> Wire for TcpWire<R> {
+impl<R: Net + Clock + CpuClock + Drop> Wire for TcpWire<R> {
     ghost log = { λ _. None };
 
     ghost taken = { count_of_taken };
@@ -121,7 +121,7 @@ struct Ends<R> {
     sockets: Option<Sockets>,
 }
 
-impl<R: Net + Clock + Drop> Ends<R> {
+impl<R: Net + Clock + CpuClock + Drop> Ends<R> {
     fn next(&mut self) -> Result<Event, IoFault>
         ensures sized { IfOk result IsSizedEvent }
     {
