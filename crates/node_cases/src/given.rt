@@ -1,6 +1,7 @@
-//! What a node is given in one run: the words, the calls that fail, and the events.
-use crate::lines::{Line, Section, line_of};
-use mld_io::{Event, Piece};
+//! What a node is given in one run: the words, the calls that fail, the device, and the events.
+use crate::lines::{Failing, Line, Section, crash_of, line_of};
+use disk_model::MemoryBanks;
+use mld_io::{CrashBanks, Event, Piece, Side};
 use std::alloc::{AllocError, Global};
 use transcripts::put_hexadecimal;
 
@@ -22,15 +23,25 @@ fn put_words(alloc: Global, words: &mut Vec<String>, told: &str) -> Result<(), A
     Ok(())
 }
 
-/// The numbers of the calls of the wire that fail.
-pub fn fails_of(alloc: Global, section: Section<'_>) -> Result<Vec<u64>, AllocError> {
+/// The numbers of the calls that fail so.
+pub fn fails_of(
+    alloc: Global,
+    section: Section<'_>,
+    failing: Failing,
+) -> Result<Vec<u64>, AllocError> {
     let mut fails = Vec::new(alloc);
     for line in section.text.split('\n') {
-        if let Some(Line::Fails(told)) = line_of(line) {
-            put_numbers(&mut fails, told)?;
-        }
+        put_fails(&mut fails, line, failing)?;
     }
     Ok(fails)
+}
+
+/// Puts the numbers of a line behind these, where it tells calls that fail so.
+fn put_fails(fails: &mut Vec<u64>, line: &str, failing: Failing) -> Result<(), AllocError> {
+    match line_of(line) {
+        Some(Line::Fails(how, told)) if how == failing => put_numbers(fails, told),
+        _ => Ok(()),
+    }
 }
 
 /// Puts numbers that are parted by spaces behind these.
@@ -39,6 +50,34 @@ fn put_numbers(fails: &mut Vec<u64>, told: &str) -> Result<(), AllocError> {
         if let Ok(number) = number.parse::<u64>() {
             fails.push(number)?;
         }
+    }
+    Ok(())
+}
+
+/// The device of a run: it has what reads of this one give, and its calls are counted from here and fail or stop as the run says.
+pub fn device_of(
+    alloc: Global,
+    section: Section<'_>,
+    banks: &MemoryBanks,
+) -> Result<MemoryBanks, AllocError> {
+    let a = banks.bytes(Side::A);
+    let b = banks.bytes(Side::B);
+    let mut device = MemoryBanks::with_bytes(alloc, a, b)?;
+    fail_calls(alloc, &mut device, section)?;
+    if let Some((call, leave)) = crash_of(section) {
+        device.arm(call, leave);
+    }
+    Ok(device)
+}
+
+/// Makes the calls of a device fail that a run tells.
+fn fail_calls(
+    alloc: Global,
+    device: &mut MemoryBanks,
+    section: Section<'_>,
+) -> Result<(), AllocError> {
+    for call in &fails_of(alloc, section, Failing::Device)? {
+        device.fail_call(*call)?;
     }
     Ok(())
 }

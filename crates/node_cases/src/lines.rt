@@ -1,5 +1,5 @@
 //! The lines of a session.
-use mld_io::Side;
+use mld_io::{Leave, Side};
 use transcripts::{is_hexadecimal, is_side, parted, uncommented};
 
 /// How a run is to end.
@@ -13,11 +13,24 @@ pub struct End {
     pub damaged: Option<(Side, u64)>,
 }
 
+/// Which calls fail, and how.
+#[derive(Clone, Copy, PartialEq, Eq)]
+pub enum Failing {
+    /// The wire fails.
+    Wire,
+    /// The wire finds no memory.
+    Memory,
+    /// The device fails.
+    Device,
+}
+
 /// What a line of a run says.
 #[derive(Clone, Copy)]
 pub enum Line<'a> {
-    /// The calls of the wire that fail.
-    Fails(&'a str),
+    /// Calls that fail.
+    Fails(Failing, &'a str),
+    /// The call at which the device stops, and what the crash behind the run leaves.
+    Crash(u32, Leave),
     /// A connection was opened.
     Opened(u32),
     /// Bytes came on a connection.
@@ -54,7 +67,10 @@ impl Line<'_> {
 pub fn line_of(line: &str) -> Option<Line<'_>> {
     let (word, rest) = parted(line);
     match word {
-        "fails" => told_if(are_numbers(rest), Line::Fails(rest)),
+        "fails" => told_if(are_numbers(rest), Line::Fails(Failing::Wire, rest)),
+        "lacks" => told_if(are_numbers(rest), Line::Fails(Failing::Memory, rest)),
+        "breaks" => told_if(are_numbers(rest), Line::Fails(Failing::Device, rest)),
+        "crash" => read_crash(rest),
         "end" => told_if(rest.is_empty(), Line::End),
         "status" => Some(Line::Status(read_end(rest)?)),
         "side" => told_if(is_side(line), Line::Side),
@@ -90,6 +106,22 @@ fn told_if(is_so: bool, line: Line<'_>) -> Option<Line<'_>> {
 /// Whether these are numbers, parted by spaces.
 fn are_numbers(told: &str) -> bool {
     told.split(' ').all(|number| number.parse::<u64>().is_ok())
+}
+
+/// A crash, by what stands behind `crash`: the number of a call, and what is left.
+fn read_crash<'a>(told: &str) -> Option<Line<'a>> {
+    let (call, leave) = parted(told);
+    Some(Line::Crash(call.parse::<u32>().ok()?, read_leave(leave)?))
+}
+
+/// What a crash leaves, by its word.
+fn read_leave(word: &str) -> Option<Leave> {
+    match word {
+        "lose" => Some(Leave::Lose),
+        "keep" => Some(Leave::Keep),
+        "torn" => Some(Leave::Torn),
+        _ => None,
+    }
 }
 
 /// How a run is to end, by what stands behind `status`: the status, `turns` and how many, and where it is told `damaged`, the side and
@@ -148,6 +180,17 @@ pub fn end_of(section: Section<'_>) -> Option<End> {
     for line in section.text.split('\n') {
         if let Some(Line::Status(end)) = line_of(line) {
             found = Some(end);
+        }
+    }
+    found
+}
+
+/// The crash of a run, where there is one: the call at which the device stops, and what is left.
+pub fn crash_of(section: Section<'_>) -> Option<(u32, Leave)> {
+    let mut found = None;
+    for line in section.text.split('\n') {
+        if let Some(Line::Crash(call, leave)) = line_of(line) {
+            found = Some((call, leave));
         }
     }
     found

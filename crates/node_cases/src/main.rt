@@ -4,8 +4,11 @@
 mod comparing;
 mod given;
 mod lines;
+mod repeats;
 mod runs;
+mod wires;
 
+use repeats::written_out;
 use runs::{Way, plays};
 use std::alloc::{Alloc, Global};
 use std::fs::{self, Files};
@@ -29,14 +32,15 @@ fn main(rt: HostRuntime) -> io::Result<ExitCode> {
     Ok(ExitCode::from(if is_so { 0 } else { 1 }))
 }
 
-/// Goes through the session of a file, and once more with each piece cut in two where no call fails and no turns are told.
+/// Goes through the session of a file, and once more with each piece cut in two where that may be.
 fn play_file<R: Files + Print + Threads + Sync + Alloc<A = Global>>(
     rt: &R,
     name: &str,
     whole: &mut Count,
     cut: &mut Count,
 ) -> io::Result<()> {
-    let text = fs::read_to_string(rt, name)?;
+    let told = fs::read_to_string(rt, name)?;
+    let text = written_out(rt.alloc(), told.as_str())?;
     play_text(rt, name, text.as_str(), whole, cut)
 }
 
@@ -56,8 +60,13 @@ fn play_text<R: Print + Threads + Sync + Alloc<A = Global>>(
         },
         text,
     )?);
-    if !text.contains("\nfails ") && !text.contains(" --turns ") {
+    if may_be_cut(text) {
         cut.add(plays(rt, Way { name, is_cut: true }, text)?);
     }
     Ok(())
+}
+
+/// Whether the calls of the wire and the turns don't count in a session, so that its pieces may be cut.
+fn may_be_cut(text: &str) -> bool {
+    !text.contains("\nfails ") && !text.contains("\nlacks ") && !text.contains(" --turns ")
 }

@@ -3,14 +3,14 @@ ghost use Rattle.std.specs.Prelude.{◌≡◌, length, IfOk};
 ghost use Rattle.mld_io.specs.Wires.{taken_of};
 
 use crate::comparing::{has_end, has_sent};
-use crate::given::{events_of, fails_of, words_of};
-use crate::lines::{End, Section, bad_line, count_lines, end_of};
+use crate::given::{device_of, events_of, fails_of, words_of};
+use crate::lines::{End, Failing, Section, bad_line, count_lines, crash_of, end_of};
+use crate::wires::ScarceWire;
 use disk_model::MemoryBanks;
-use mld_io::{MemoryWire, Side};
+use mld_io::{CrashBanks, MemoryWire, Side};
 use node_run::serve;
 use std::alloc::{Alloc, AllocError, Global};
 use std::io::{self, Print};
-use std::mem;
 use std::thread::Threads;
 use transcripts::{has_side, is_side, side_bytes};
 
@@ -101,22 +101,38 @@ fn play<R: Print + Threads + Sync + Alloc<A = Global>>(
 ) -> io::Result<bool> {
     let words = words_of(rt.alloc(), section)?;
     let mut wire = wire_of(rt.alloc(), section, way.is_cut)?;
-    let taken = mem::replace(banks, MemoryBanks::blank(rt.alloc()));
-    let ran = serve(rt, rt.alloc(), &words, &mut wire, taken);
+    let device = device_of(rt.alloc(), section, banks)?;
+    let ran = serve(rt, rt.alloc(), &words, &mut wire, device);
     let end = End {
         status: ran.status,
         turns: ran.turns,
         damaged: ran.damaged,
     };
     *banks = ran.banks;
-    compare(rt, way, section, &wire, end, banks)
+    if crash_of(section).is_some() {
+        banks.revive();
+    }
+    compare(rt, way, section, &wire.wire, end, banks)
 }
 
 /// The wire of a run, of which nothing was taken yet.
-fn wire_of(alloc: Global, section: Section<'_>, is_cut: bool) -> Result<MemoryWire, AllocError>
+fn wire_of(alloc: Global, section: Section<'_>, is_cut: bool) -> Result<ScarceWire, AllocError>
+    ensures { IfOk result (λ wire. length (taken_of wire.wire.log) ≡ 0) }
+{
+    let lacks = fails_of(alloc, section, Failing::Memory)?;
+    let wire = memory_wire_of(alloc, section, is_cut)?;
+    Ok(ScarceWire::new(wire, lacks))
+}
+
+/// The wire in memory of a run, of which nothing was taken yet.
+fn memory_wire_of(
+    alloc: Global,
+    section: Section<'_>,
+    is_cut: bool,
+) -> Result<MemoryWire, AllocError>
     ensures { IfOk result (λ wire. length (taken_of wire.log) ≡ 0) }
 {
-    let fails = fails_of(alloc, section)?;
+    let fails = fails_of(alloc, section, Failing::Wire)?;
     let events = events_of(alloc, section, is_cut)?;
     MemoryWire::new(alloc, events, fails.as_slice())
 }
