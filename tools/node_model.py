@@ -1,7 +1,7 @@
 """A node as `docs/FORMATS.md` describes it, written from the formats alone: its clone, its device, its messages, its connections.
 
 It is slow and plain, and is there to say what the node in the repository has to send. What isn't here: the texts of updates and queries.
-What such a line does is told by whoever gives it (`Node.updates`, `Node.queries`).
+What such a line does is told by whoever gives it (`Node.updates`, `Node.queries`), or that it has too many solutions.
 
 A clock is a dict from paths to ticks, a path a text of `0` and `1`, a triple its written form, a pair (triple, path, tick).
 """
@@ -19,11 +19,13 @@ LETTERS_LIMIT = 64
 HELD_LIMIT = 4096
 IRI_LIMIT = 2048
 LEXICAL_LIMIT = 1 << 20
+TOO_MANY = "too many"
 XSD_STRING = "http://www.w3.org/2001/XMLSchema#string"
 LANG_STRING = "http://www.w3.org/1999/02/22-rdf-syntax-ns#langString"
 
 Entry = collections.namedtuple("Entry", "path first last time deletes inserts")
 Give = collections.namedtuple("Give", "id path clock pairs")
+Volume = collections.namedtuple("Volume", "generation id domain props path base pairs entries end")
 
 # ---- Triples
 
@@ -137,8 +139,8 @@ def is_entry(entry):
     )
 
 
-def same_range(one, other):
-    return (one.path, one.first, one.last) == (other.path, other.first, other.last)
+def range_of(entry):
+    return entry.path, entry.first, entry.last
 
 
 def is_known(entry, clock):
@@ -315,6 +317,27 @@ class Reader:
         self.wants(is_entry(entry))
         return entry
 
+    def text(self):
+        return self.bytes(self.number()).decode()
+
+    def volume(self):
+        """What stands on a side behind its first gate."""
+        self.wants(self.bytes(4) == b"mld1")
+        generation, id, domain = int.from_bytes(self.bytes(8), "big"), self.bytes(16), self.text()
+        props = self.ascending(self.text, lambda iri: f"<{iri}>".encode())
+        path, (base, pairs) = self.path(), self.covered()
+        entries, ticks = [], base
+        while self.bytes(1) == b"\x01":
+            kind = self.bytes(1)[0]
+            self.wants(kind in (1, 2))
+            if kind == 1:
+                entries.append(self.entry())
+                self.wants(is_ready(entries[-1], ticks))
+                ticks = raised(ticks, entries[-1].path, entries[-1].last)
+            else:
+                path += "0"
+        return Volume(generation, id, domain, props, path, base, pairs, entries, self.at - 1)
+
     def message(self):
         kind = self.bytes(1)[0]
         self.wants(1 <= kind <= 5)
@@ -340,27 +363,90 @@ def read_message(data):
 # ---- A device
 
 
+class DeviceFault(Exception):
+    """A call of the device failed."""
+
+
+READ_PIECE = 4096
+
+
 class Banks:
-    """The two sides of a device, and which of them counts."""
+    """The two sides of a device as reads give them, and which of them counts. In a run chosen calls fail, or the device stops at one that
+    writes or syncs, and a crash comes behind the run."""
 
     def __init__(self, a=b"", b=b""):
         self.sides = [bytearray(a), bytearray(b)]
         self.counts = 0
         self.end = 0
+        self.begin()
+
+    def begin(self, breaks=(), crash=None):
+        """A run begins: the numbers of the calls that fail in it; or how many writes and syncs are done before the device stops, and
+        what the crash leaves."""
+        self.breaks, self.calls = set(breaks), 0
+        self.left, self.leave = crash or (None, None)
+        self.stopped = False
+        self.durable = [bytes(side) for side in self.sides]
+        self.unsynced = [[], []]
+
+    def call(self):
+        """A call, of whatever kind."""
+        self.calls += 1
+        if self.stopped or self.calls - 1 in self.breaks:
+            raise DeviceFault
+
+    def changed(self):
+        """The end of a call that writes or syncs, at which the device may stop."""
+        if self.left is None:
+            return
+        if self.left == 0:
+            self.stopped = True
+            raise DeviceFault
+        self.left -= 1
 
     def write_at(self, side, at, piece):
+        self.call()
         self.sides[side][at : at + len(piece)] = piece
+        self.unsynced[side].append((at, piece))
+        self.changed()
+
+    def sync(self, side):
+        self.call()
+        self.changed()
+        if self.leave:
+            self.durable[side] = bytes(self.sides[side])
+        self.unsynced[side] = []
+
+    def read(self, side):
+        """What a side has: its length is asked, its first byte is read, and where that is an open gate the rest in pieces."""
+        self.call()
+        data = bytes(self.sides[side])
+        if data:
+            self.call()
+        if data[:1] == b"\x01":
+            for _ in range(1, len(data), READ_PIECE):
+                self.call()
+        return data
+
+    def crashed(self):
+        """The crash behind a run: what it leaves of each write that isn't synced is nothing, all, or its first half and then bytes 255."""
+        for side in (0, 1) if self.leave in ("lose", "torn") else ():
+            self.sides[side] = bytearray(self.durable[side])
+            for at, piece in self.unsynced[side] if self.leave == "torn" else ():
+                half = len(piece) // 2
+                self.sides[side][at : at + len(piece)] = piece[:half] + b"\xff" * (len(piece) - half)
 
     def write_whole(self, side, content):
         """A side written anew: its content between its first gate and the closed one."""
-        self.write_at(side, 0, b"\x00")
-        self.write_at(side, 1, content + b"\x00")
-        self.write_at(side, 0, b"\x01")
+        for at, piece in ((0, b"\x00"), (1, content + b"\x00"), (0, b"\x01")):
+            self.write_at(side, at, piece)
+            self.sync(side)
         self.counts, self.end = side, 1 + len(content)
 
     def append(self, record):
-        self.write_at(self.counts, self.end + 1, record + b"\x00")
-        self.write_at(self.counts, self.end, b"\x01")
+        for at, piece in ((self.end + 1, record + b"\x00"), (self.end, b"\x01")):
+            self.write_at(self.counts, at, piece)
+            self.sync(self.counts)
         self.end += 1 + len(record)
 
 
@@ -380,12 +466,12 @@ class Clone:
     def __init__(self, banks, id, domain, props, path, base, pairs):
         self.banks, self.id, self.domain, self.props, self.path = banks, id, domain, sorted(set(props)), path
         self.base, self.base_pairs, self.journal = dict(base), set(pairs), []
-        self.generation, self.held = 0, []
+        self.generation, self.held = 0, {}
         self.known, self.pairs = dict(base), set(pairs)
 
-    def restarted(self):
-        """It opens again on its device: what it held back is gone."""
-        self.held = []
+    def kept(self):
+        """All that a clone has but what it holds back."""
+        return self.generation, self.props, self.path, self.base, self.base_pairs, self.journal, self.known, self.pairs
 
     def write_whole(self):
         self.generation += 1
@@ -409,11 +495,11 @@ class Clone:
         """Takes what is ready of what is held back, in order of arrival; the entries taken."""
         taken = []
         while True:
-            self.held = [entry for entry in self.held if not is_known(entry, self.known)]
-            ready = next((entry for entry in self.held if is_ready(entry, self.known)), None)
+            self.held = {place: entry for place, entry in self.held.items() if entry.last > self.known.get(entry.path, 0)}
+            ready = next((entry for entry in self.held.values() if is_ready(entry, self.known)), None)
             if ready is None:
                 return taken
-            self.held.remove(ready)
+            del self.held[range_of(ready)]
             self.take(ready)
             taken.append(ready)
 
@@ -491,11 +577,11 @@ class Clone:
         if is_ready(entry, self.known):
             self.take(entry)
             return "took", [entry] + self.released()
-        if any(same_range(entry, held) for held in self.held):
+        if range_of(entry) in self.held:
             return "held", None
         if len(self.held) == HELD_LIMIT:
             return "held full", None
-        self.held.append(entry)
+        self.held[range_of(entry)] = entry
         return "held", None
 
     def receive_want(self, clock):
@@ -534,6 +620,24 @@ def joined(banks, id, domain, props, give):
     """A clone with a leaf that was given, on a blank device."""
     clone = Clone(banks, id, domain, props, give.path, give.clock, set(give.pairs))
     clone.write_whole()
+    return clone
+
+
+def mounted(banks):
+    """The clone that a device keeps, which opens on it; None where neither side is open."""
+    banks.sync(0)
+    banks.sync(1)
+    sides = [banks.read(side) for side in (0, 1)]
+    volumes = {side: Reader(data[1:]).volume() for side, data in enumerate(sides) if data[:1] == b"\x01"}
+    if not volumes:
+        return None
+    side = max(volumes, key=lambda side: volumes[side].generation)
+    volume = volumes[side]
+    clone = Clone(banks, volume.id, volume.domain, volume.props, volume.path, volume.base, volume.pairs)
+    clone.generation = volume.generation
+    for entry in volume.entries:
+        clone.put(entry)
+    banks.counts, banks.end = side, 1 + volume.end
     return clone
 
 
@@ -674,7 +778,8 @@ class Node:
                 return "bad line"
             return self.change(set() if word == "add" else {triple}, {triple} if word == "add" else set())
         if word == "update" and rest in self.updates:
-            return self.change(*self.updates[rest])
+            told = self.updates[rest]
+            return self.change(*told) if told != TOO_MANY else told if self.clone else "asking"
         if word == "query" and rest in self.queries:
             return self.queries[rest] if self.clone else "asking"
         is_truncation = word == "truncate" and NUMBER.fullmatch(rest) and int(rest) < 2**64
