@@ -3,8 +3,8 @@
 #![tactic(auto)]
 
 use mld_io::{FileBanks, StdSink, StdSource};
-use shell_run::read_folder;
 use shell_run::run::shell;
+use shell_run::{FolderFault, read_folder};
 use std::alloc::{Alloc, AllocError, Global};
 use std::env::{self, Env};
 use std::fs::{File, Files};
@@ -51,7 +51,8 @@ fn banks_of<R: Alloc<A = Global> + Files<File = File> + Clone + Drop>(
 ) -> Result<FileBanks<R>, AllocError> {
     match read_folder(rt.alloc(), words) {
         Ok(folder) => FileBanks::new(rt.clone()?, rt.alloc(), folder.as_str()),
-        Err(_) => FileBanks::new(rt.clone()?, rt.alloc(), ""),
+        Err(FolderFault::Usage) => FileBanks::new(rt.clone()?, rt.alloc(), ""),
+        Err(FolderFault::NoMemory) => Err(AllocError),
     }
 }
 

@@ -4,7 +4,7 @@ ghost use Rattle.tcp_node.specs.TcpWires.{count_of_taken};
 
 use crate::wire::TcpWire;
 use mld_io::FileBanks;
-use node_run::{read_words, serve};
+use node_run::{NodeWordsFault, read_words, serve};
 use std::alloc::{Alloc, AllocError, Global};
 use std::env::{self, Env};
 use std::fs::{File, Files};
@@ -84,7 +84,8 @@ fn ends_of<R: Alloc<A = Global> + Clock + Clone + CpuClock + Drop + Files<File =
             let peer = node.peer.as_ref().map(Text::as_str);
             ends_at(rt, node.dir.as_str(), node.listen.as_str(), peer)
         }
-        Err(_) => ends_at(rt, "", "", None),
+        Err(NodeWordsFault::Usage) => ends_at(rt, "", "", None),
+        Err(NodeWordsFault::NoMemory) => Err(AllocError),
     }
 }
 
