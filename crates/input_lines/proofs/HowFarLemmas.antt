@@ -1,21 +1,16 @@
 -- How far a source was read, and that it was no more than 16,777,217 bytes.
-use Rattle.std.proofs.Common.{◌≡◌, ◌≢◌, ℕ, zero, suc, ◌+◌, ◌-◌, ◌<◌, ◌≤◌, Bool, false, List, [], ◌∷◌, ◌++◌, length, inl, inr, refl, sym, ◌∙◌, ap, arith, subst, Option, Some, append_assoc, length-append}
+use Rattle.std.proofs.Common.{◌≡◌, ◌≢◌, ℕ, zero, suc, ◌+◌, ◌<◌, ◌≤◌, Bool, false, List, [], ◌∷◌, ◌++◌, length, inl, inr, refl, sym, ◌∙◌, ap, arith, subst, Option, Some, append_assoc, length-append}
 use Rattle.std.proofs.lemmas.Bool.{cases_lt}
 use Rattle.std.proofs.lemmas.Bool.Decides.{eqb_tells}
 use Rattle.std.proofs.lemmas.List.Elements.{All-nil}
-use Rattle.mld_io.specs.Lines.{LinesValue, IsCutShort, TakesAtMost, line_break, lines_of, first_line, after_line, line_size}
+use Rattle.mld_io.specs.Lines.{line_break, lines_of, first_line, after_line, line_size}
 use Rattle.mld_io.proofs.LinesLaws.{first_of_lines_lem}
-use Rattle.input_lines.specs.TooLarge.{IsUnderLimits, input_limit, left_after, size_of_lines, IsTooLargeLine}
+use Rattle.input_lines.specs.TooLarge.{input_limit, left_after, size_of_lines, BreaksLimits, IsTooLargeLine}
 use Rattle.input_lines.specs.Taken.{IsLeft, KnowsEnd}
-use Rattle.input_lines.specs.HowFar.{IsBrokenOff, ReadsJust, ReadsFewBehind, ReadsInto, IsReadWithin}
+use Rattle.input_lines.specs.HowFar.{IsCutWithin, IsCutPast, IsBrokenOff, ReadsJust, ReadsInto, MeetsTooLarge, IsReadWithin}
 use Rattle.input_lines.specs.declared.faults.InputFault.{InputFault}
 use Rattle.input_lines.specs.declared.faults.InputFault.TheVariants as faults
-use Rattle.input_lines.proofs.TakenLemmas.{size_of_more, left_of_nothing, left_later, all_fit, end_cut}
-
--- what a call for the next line says of how many bytes were taken
-pub few_taken : (lines : LinesValue) (bytes : List ℕ) (left : Option (List ℕ)) → IsUnderLimits lines → TakesAtMost bytes left ((lines.all - lines.taken) + 1)
-    → TakesAtMost bytes left ((input_limit - lines.taken) + 1)
-few_taken lines bytes left under few = subst (λ (n : ℕ). TakesAtMost bytes left ((n - lines.taken) + 1)) under.in_all few
+use Rattle.input_lines.proofs.TakenLemmas.{size_of_more, left_of_nothing, left_later, all_fit, large_next, end_cut}
 
 -- ---- lines that fit
 
@@ -66,30 +61,32 @@ just_whole bytes left is fits = record {
   left_is = is ∙ ap (λ (b : List ℕ). Some b) (sym (left_later (length (lines_of bytes)) (length (lines_of bytes) + 1) bytes (none_behind (lines_of bytes) bytes refl) (omega arith)));
 }
 
--- ---- a few bytes behind them were
+-- ---- a part of the line behind them was
 
--- where no line could be given
-pub few_behind : (bytes : List ℕ) (left rest : Option (List ℕ)) (size done : ℕ) (lines : List (List ℕ)) (fault : InputFault) → (at : IsLeft bytes left size done lines)
-    → IsBrokenOff size fault at.rest rest → ReadsFewBehind bytes rest done
-few_behind bytes left rest size done lines fault at broken = record {
-  front = broken.few.front;
-  rest = broken.few.rest;
-  behind = sym at.behind ∙ broken.few.front_of;
-  few = omega (arith, broken.few.few, at.counted, size_fits done bytes at.fits);
-  left_is = broken.few.left_is;
+-- the line is too large
+pub meets_large : (bytes : List ℕ) (left rest : Option (List ℕ)) (size done : ℕ) (lines : List (List ℕ)) → (at : IsLeft bytes left size done lines)
+    → BreaksLimits size at.rest → IsCutPast size at.rest rest → MeetsTooLarge bytes rest done
+meets_large bytes left rest size done lines at breaks cut = record {
+  fits = at.fits;
+  large = large_next bytes left size done lines at breaks;
+  cut = subst (λ (n : ℕ). IsCutPast n (left_after done bytes) rest) at.counted (subst (λ (b : List ℕ). IsCutPast size b rest) at.behind cut);
 }
 
--- they are a part of one line, unless that is too large
+-- it isn't
+cut_of : (size : ℕ) (fault : InputFault) (bytes : List ℕ) (left : Option (List ℕ)) → ((line : ℕ) → fault ≢ faults.TooLarge line) → IsBrokenOff size fault bytes left → IsCutWithin size bytes left
+cut_of size faults.ReadFault bytes left fits broken = broken
+cut_of size faults.NoMemory bytes left fits broken = broken
+cut_of size (faults.TooLarge line) bytes left fits broken = absurd (fits line refl)
+
 pub into_next : (given left rest : Option (List ℕ)) (size done : ℕ) (lines : List (List ℕ)) (before : Bool) (fault : InputFault) → KnowsEnd before given left done → before ≡ false
     → ((line : ℕ) → fault ≢ faults.TooLarge line) → ((bytes : List ℕ) → left ≡ Some bytes → IsBrokenOff size fault bytes rest) → (bytes : List ℕ) → given ≡ Some bytes
     → IsLeft bytes left size done lines → ReadsInto bytes rest done
 into_next given left rest size done lines before fault knows not_yet fits broken bytes is at =
-    let here : IsBrokenOff size fault at.rest rest = broken at.rest at.is in
+    let here : IsCutWithin size at.rest rest = cut_of size fault at.rest rest fits (broken at.rest at.is) in
     record {
       fits = at.fits;
-      reads = end_cut given left rest done before knows not_yet (λ behind told. (broken behind told).cut fits) bytes is;
-      cut = subst (λ (b : List ℕ). IsCutShort b rest) at.behind (here.cut fits);
-      few = few_behind bytes left rest size done lines fault at here;
+      reads = end_cut given left rest size done before knows not_yet (λ behind told. cut_of size fault behind rest fits (broken behind told)) bytes is;
+      cut = subst (λ (n : ℕ). IsCutWithin n (left_after done bytes) rest) at.counted (subst (λ (b : List ℕ). IsCutWithin size b rest) at.behind here);
     }
 
 -- nothing was read
@@ -97,8 +94,7 @@ pub into_first : (bytes : List ℕ) (left : Option (List ℕ)) → left ≡ Some
 into_first bytes left is = record {
   fits = λ line below. absurd (omega (arith, below));
   reads = record { read = []; rest = bytes; whole = refl; ends = refl; left_is = is };
-  cut = record { front = []; rest = bytes; front_of = refl; no_end = All-nil (λ b. b ≢ line_break); left_is = is };
-  few = record { front = []; rest = bytes; behind = refl; few = omega arith; left_is = is };
+  cut = record { front = []; rest = bytes; front_of = refl; no_end = All-nil (λ b. b ≢ line_break); in_line = omega arith; in_room = omega arith; left_is = is };
 }
 
 -- ---- it was no more than an input may have, and one byte
@@ -130,13 +126,25 @@ within_just bytes left lines just =
     let split = lines_split lines bytes in
     record { front = split.0; rest = left_after lines bytes; front_of = split.1; left_is = just.left_is; few = omega (arith, split.2, size_fits lines bytes just.fits) }
 
-pub within_few : (bytes : List ℕ) (left : Option (List ℕ)) (lines : ℕ) → ReadsFewBehind bytes left lines → IsReadWithin bytes left
-within_few bytes left lines behind =
+within_front : (bytes front rest : List ℕ) (left : Option (List ℕ)) (lines : ℕ) → left_after lines bytes ≡ front ++ rest → left ≡ Some rest
+    → size_of_lines lines bytes + length front ≤ input_limit + 1 → IsReadWithin bytes left
+within_front bytes front rest left lines behind is few =
     let split = lines_split lines bytes in
     record {
-      front = split.0 ++ behind.front;
-      rest = behind.rest;
-      front_of = split.1 ∙ ap (λ (l : List ℕ). split.0 ++ l) behind.behind ∙ sym (append_assoc split.0 behind.front behind.rest);
-      left_is = behind.left_is;
-      few = omega (arith, length-append split.0 behind.front, split.2, behind.few);
+      front = split.0 ++ front;
+      rest = rest;
+      front_of = split.1 ∙ ap (λ (l : List ℕ). split.0 ++ l) behind ∙ sym (append_assoc split.0 front rest);
+      left_is = is;
+      few = omega (arith, length-append split.0 front, split.2, few);
     }
+
+pub within_into : (bytes : List ℕ) (left : Option (List ℕ)) (lines : ℕ) → ReadsInto bytes left lines → IsReadWithin bytes left
+within_into bytes left lines into =
+    within_front bytes into.cut.front into.cut.rest left lines into.cut.front_of into.cut.left_is (omega (arith, into.cut.in_room, size_fits lines bytes into.fits))
+
+pub within_large : (bytes : List ℕ) (left : Option (List ℕ)) (lines : ℕ) → MeetsTooLarge bytes left lines → IsReadWithin bytes left
+within_large bytes left lines meets =
+    let cut = meets.cut in
+    let taken : List ℕ = cut.front ++ cut.byte ∷ [] in
+    within_front bytes taken cut.rest left lines (cut.front_of ∙ sym (append_assoc cut.front (cut.byte ∷ []) cut.rest)) cut.left_is
+    (omega (arith, length-append cut.front (cut.byte ∷ []), cut.in_room, size_fits lines bytes meets.fits))

@@ -1,13 +1,14 @@
 -- The lines taken so far, none of them too large.
 use Rattle.std.specs.Prelude.{IsTrue}
-use Rattle.std.proofs.Common.{◌≡◌, ◌≢◌, ◌↔◌, Bool, true, false, ℕ, zero, suc, ◌+◌, ◌<◌, ◌≤◌, List, [], ◌∷◌, ◌++◌, inl, inr, refl, sym, ◌∙◌, ap, arith, subst, Option, Some, None, Result, Ok, Err, append_assoc}
+use Rattle.std.proofs.Common.{◌≡◌, ◌≢◌, ◌↔◌, Bool, true, false, ℕ, zero, suc, ◌+◌, ◌-◌, ◌<◌, ◌≤◌, List, [], ◌∷◌, ◌++◌, inl, inr, refl, sym, ◌∙◌, ap, arith, subst, Option, Some, None, Result, Ok, Err, append_assoc}
 use Rattle.std.proofs.lemmas.Bool.{cases_lt, false≢true}
 use Rattle.mld_io.specs.declared.faults.LineFault.{LineFault}
 use Rattle.mld_io.specs.declared.faults.LineFault.TheVariants as line_faults
-use Rattle.mld_io.specs.Lines.{LinesValue, NextLine, IsTooLarge, IsCutShort, HasNoEnd, line_break, ended_lines, lines_of, first_line, after_line, line_size}
+use Rattle.mld_io.specs.Lines.{LinesValue, NextLine, IsTooLarge, IsCutShort, IsCutAtByte, HasNoEnd, line_break, ended_lines, lines_of, first_line, after_line, line_size}
 use Rattle.mld_io.proofs.LinesLaws.{first_of_lines_lem, first_line_ends, after_line_none, ended_lines-append, ended_lines_none, HasNoEnd-first_line}
-use Rattle.input_lines.specs.TooLarge.{left_after, size_of_lines, BreaksLimits, IsTooLargeLine, IsUnderLimits, input_limit}
+use Rattle.input_lines.specs.TooLarge.{left_after, size_of_lines, BreaksLimits, IsTooLargeLine, IsUnderLimits, line_limit, input_limit}
 use Rattle.input_lines.specs.Taken.{TakesLine, TellsEnd, Advances, ReadsLines, IsLeft, KnowsEnd}
+use Rattle.input_lines.specs.HowFar.{IsCutWithin, IsCutPast}
 use Rattle.input_lines.specs.InputFaults.{HasReadCause}
 use Rattle.input_lines.specs.declared.faults.InputFault.{InputFault}
 
@@ -121,18 +122,34 @@ pub breaks_limits : (lines : LinesValue) (bytes : List ℕ) (fault : LineFault) 
     → fault ≡ line_faults.TooLarge → NextLine lines bytes (Err fault) taken ended left → BreaksLimits lines.taken bytes
 breaks_limits lines bytes fault taken ended left under is next =
     let P : LineFault → Type 0 = λ f. NextLine lines bytes (Err f) taken ended left in
-    let large : IsTooLarge lines bytes = subst P is next in
+    let large : IsTooLarge lines bytes left = subst P is next in
     record {
       some = large.some;
       too_large = λ fits. large.too_large (record { in_line = omega (arith, under.in_line, fits.0); in_all = omega (arith, under.in_all, fits.1) });
     }
 
--- and of one that isn't
-pub cut_short : (lines : LinesValue) (bytes : List ℕ) (fault : LineFault) (taken : ℕ) (ended : Bool) (left : Option (List ℕ)) → fault ≢ line_faults.TooLarge → NextLine lines bytes (Err fault) taken ended left
-    → IsCutShort bytes left
-cut_short lines bytes line_faults.ReadFault taken ended left differs next = next
-cut_short lines bytes line_faults.NoMemory taken ended left differs next = next
-cut_short lines bytes line_faults.TooLarge taken ended left differs next = absurd (differs refl)
+-- and how far it was read
+pub cut_past : (lines : LinesValue) (bytes : List ℕ) (fault : LineFault) (taken : ℕ) (ended : Bool) (left : Option (List ℕ)) → IsUnderLimits lines
+    → fault ≡ line_faults.TooLarge → NextLine lines bytes (Err fault) taken ended left → IsCutPast lines.taken bytes left
+cut_past lines bytes fault taken ended left under is next =
+    let P : LineFault → Type 0 = λ f. NextLine lines bytes (Err f) taken ended left in
+    let large : IsTooLarge lines bytes left = subst P is next in
+    let at_line : IsCutAtByte line_limit (lines.all - lines.taken) bytes left = subst (λ (n : ℕ). IsCutAtByte n (lines.all - lines.taken) bytes left) under.in_line large.cut in
+    subst (λ (n : ℕ). IsCutAtByte line_limit (n - lines.taken) bytes left) under.in_all at_line
+
+-- and how far one was that isn't
+pub cut_within : (lines : LinesValue) (bytes : List ℕ) (fault : LineFault) (taken : ℕ) (ended : Bool) (left : Option (List ℕ)) → IsUnderLimits lines
+    → fault ≢ line_faults.TooLarge → NextLine lines bytes (Err fault) taken ended left → IsCutWithin lines.taken bytes left
+cut_within lines bytes fault taken ended left under differs next = under_limits (by_fault fault differs next) where
+  by_fault : (f : LineFault) → f ≢ line_faults.TooLarge → NextLine lines bytes (Err f) taken ended left → IsCutShort lines.line (lines.all - lines.taken) bytes left
+  by_fault line_faults.ReadFault other is = is
+  by_fault line_faults.NoMemory other is = is
+  by_fault line_faults.TooLarge other is = absurd (other refl)
+
+  under_limits : IsCutShort lines.line (lines.all - lines.taken) bytes left → IsCutWithin lines.taken bytes left
+  under_limits cut =
+      let in_line : IsCutShort line_limit (lines.all - lines.taken) bytes left = subst (λ (n : ℕ). IsCutShort n (lines.all - lines.taken) bytes left) under.in_line cut in
+      subst (λ (n : ℕ). IsCutShort line_limit (n - lines.taken) bytes left) under.in_all in_line
 
 -- the line behind those done is too large
 pub large_next : (bytes : List ℕ) (left : Option (List ℕ)) (size done : ℕ) (lines : List (List ℕ)) → (at : IsLeft bytes left size done lines) → BreaksLimits size at.rest → IsTooLargeLine bytes done
@@ -190,11 +207,11 @@ end_more given left rest size grown done lines line before now knows left_of tak
     goes_on false behind none reads is some = reads refl
 
 -- reading failed in a line
-pub end_cut : (given left rest : Option (List ℕ)) (done : ℕ) (before : Bool) → KnowsEnd before given left done → before ≡ false
-    → ((bytes : List ℕ) → left ≡ Some bytes → IsCutShort bytes rest) → (bytes : List ℕ) → given ≡ Some bytes → ReadsLines bytes rest done
-end_cut given left rest done before knows not_yet cut bytes is =
+pub end_cut : (given left rest : Option (List ℕ)) (size done : ℕ) (before : Bool) → KnowsEnd before given left done → before ≡ false
+    → ((bytes : List ℕ) → left ≡ Some bytes → IsCutWithin size bytes rest) → (bytes : List ℕ) → given ≡ Some bytes → ReadsLines bytes rest done
+end_cut given left rest size done before knows not_yet cut bytes is =
     let reads : ReadsLines bytes left done = knows.reads not_yet bytes is in
-    let short : IsCutShort reads.rest rest = cut reads.rest reads.left_is in
+    let short : IsCutWithin size reads.rest rest = cut reads.rest reads.left_is in
     record {
       read = reads.read ++ short.front;
       rest = short.rest;

@@ -27,8 +27,8 @@ pub fn next_line<S: Source>(
         → WhereTold (S.left source.old) (λ bytes. IfOk result (λ line. line ≡ None → bytes ≡ [])) }
     ensures ended { WhereTold (S.left source.old) (λ bytes. IfOk result (TellsEnd lines.new.ended bytes)) }
     ensures failed { OnErr result (lines.old.ended ≡ false) }
-    // The line that is too large is the one that was due. Of one that could not be given a part was taken, and of one that is too large no
-    // more than an input may still have, and one byte.
+    // The line that is too large is the one that was due. Of one that could not be given a part was taken that keeps the limits, and of one
+    // that is too large one byte more.
     ensures large { (at : ℕ) → IsErrOf result (InputFault.TooLarge at)
         → (at ≡ number) × WhereTold (S.left source.old) (BreaksLimits lines.old.taken) }
     ensures broken_off { IfErr result (λ fault. WhereTold (S.left source.old)

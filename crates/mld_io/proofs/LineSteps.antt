@@ -2,7 +2,7 @@
 use Rattle.std.proofs.Common.{◌≡◌, ◌≢◌, ℕ, ◌+◌, ◌<◌, ◌≤◌, List, [], ◌∷◌, ◌++◌, length, Option, None, Some, Ok, Bool, true, false, refl, sym, ap, subst, ◌∙◌, arith, append-nil, append_assoc, length-append}
 use Rattle.std.proofs.lemmas.Bool.{false≢true}
 use Rattle.std.proofs.lemmas.List.Elements.{All-push, All-nil, All-head, All-tail}
-use Rattle.mld_io.specs.Lines.{line_break, LinesValue, HasNoEnd, IsEnd, IsLine, IsTooLarge, IsCutShort, TakesAtMost, first_line, after_line, line_size}
+use Rattle.mld_io.specs.Lines.{line_break, LinesValue, HasNoEnd, IsEnd, IsLine, IsTooLarge, IsCutShort, IsCutAtByte, TakesAtMost, room_left, first_line, after_line, line_size}
 use Rattle.mld_io.proofs.LinesLaws.{first_line-append, after_line-append, line_size-append, line_size_some}
 use Rattle.mld_io.specs.Reads.{TakesByte}
 
@@ -27,8 +27,10 @@ ReadSoFar-push bytes front rest b left no_end other e is = record {
 }
 
 -- a part of the line was taken
-pub IsCutShort-from_part : (bytes front rest : List ℕ) (left : Option (List ℕ)) → HasNoEnd front → bytes ≡ front ++ rest → left ≡ Some rest → IsCutShort bytes left
-IsCutShort-from_part bytes front rest left no_end e is = record { front = front; rest = rest; front_of = e; no_end = no_end; left_is = is }
+pub IsCutShort-from_part : (line room : ℕ) (bytes front rest : List ℕ) (left : Option (List ℕ)) → HasNoEnd front → bytes ≡ front ++ rest → left ≡ Some rest
+    → length front ≤ line → length front ≤ room → IsCutShort line room bytes left
+IsCutShort-from_part line room bytes front rest left no_end e is in_line in_room =
+    record { front = front; rest = rest; front_of = e; no_end = no_end; in_line = in_line; in_room = in_room; left_is = is }
 
 -- where the source has more, it has the byte that it gave
 pub more_bytes : (bytes front : List ℕ) (b : ℕ) (before after : Option (List ℕ)) → (so_far : ReadSoFar bytes front before)
@@ -79,20 +81,29 @@ IsLine-from_end lines bytes front taken ended left no_end e is some in_line coun
       left_is = is ∙ ap (λ r. Some r) (sym (ap after_line e' ∙ after_line-append front [] no_end));
     }
 
+-- a byte more was taken
+IsCutAtByte-from_part : (line room : ℕ) (bytes front rest : List ℕ) (b : ℕ) (left : Option (List ℕ)) → HasNoEnd front → bytes ≡ front ++ b ∷ rest → left ≡ Some rest
+    → length front ≤ line → length front ≤ room → IsCutAtByte line room bytes left
+IsCutAtByte-from_part line room bytes front rest b left no_end e is in_line in_room =
+    record { front = front; byte = b; rest = rest; front_of = e; no_end = no_end; in_line = in_line; in_room = in_room; left_is = is }
+
 -- a byte more passes the limit of the input
-pub IsTooLarge-from_all : (lines : LinesValue) (bytes front rest : List ℕ) (b : ℕ) → HasNoEnd front → bytes ≡ front ++ b ∷ rest → lines.all < lines.taken + (length front + 1) → IsTooLarge lines bytes
-IsTooLarge-from_all lines bytes front rest b no_end e past =
+pub IsTooLarge-from_all : (lines : LinesValue) (bytes front rest : List ℕ) (b : ℕ) (left : Option (List ℕ)) → HasNoEnd front → bytes ≡ front ++ b ∷ rest → left ≡ Some rest
+    → length front ≤ lines.line → length front ≤ room_left lines → lines.all < lines.taken + (length front + 1) → IsTooLarge lines bytes left
+IsTooLarge-from_all lines bytes front rest b left no_end e is in_line in_room past =
     let size : line_size bytes ≡ length front + line_size (b ∷ rest) = ap line_size e ∙ line_size-append front (b ∷ rest) no_end in
     let long : length bytes ≡ length front + length (b ∷ rest) = ap length e ∙ length-append front (b ∷ rest) in
     let one : 0 < line_size (b ∷ rest) = line_size_some (b ∷ rest) (λ none. cc) in
     record {
       some = λ none. omega (arith, ap length none, long);
       too_large = λ fits. omega (arith, fits.in_all);
+      cut = IsCutAtByte-from_part lines.line (room_left lines) bytes front rest b left no_end e is in_line in_room;
     }
 
 -- a byte more that is no LF passes the limit of a line
-pub IsTooLarge-from_line : (lines : LinesValue) (bytes front rest : List ℕ) (b : ℕ) → HasNoEnd front → b ≢ line_break → bytes ≡ front ++ b ∷ rest → lines.line < length front + 1 → IsTooLarge lines bytes
-IsTooLarge-from_line lines bytes front rest b no_end other e past =
+pub IsTooLarge-from_line : (lines : LinesValue) (bytes front rest : List ℕ) (b : ℕ) (left : Option (List ℕ)) → HasNoEnd front → b ≢ line_break → bytes ≡ front ++ b ∷ rest → left ≡ Some rest
+    → length front ≤ lines.line → length front ≤ room_left lines → lines.line < length front + 1 → IsTooLarge lines bytes left
+IsTooLarge-from_line lines bytes front rest b left no_end other e is in_line in_room past =
     let more : HasNoEnd (front ++ b ∷ []) = All-push (λ b. b ≢ line_break) front b no_end other in
     let e' : bytes ≡ (front ++ b ∷ []) ++ rest = e ∙ sym (append_assoc front (b ∷ []) rest) in
     let first : length (first_line bytes) ≡ (length front + 1) + length (first_line rest) =
@@ -101,6 +112,7 @@ IsTooLarge-from_line lines bytes front rest b no_end other e past =
     record {
       some = λ none. omega (arith, ap length none, long);
       too_large = λ fits. omega (arith, fits.in_line);
+      cut = IsCutAtByte-from_part lines.line (room_left lines) bytes front rest b left no_end e is in_line in_room;
     }
 
 -- where nothing was taken, the end of the input is no line

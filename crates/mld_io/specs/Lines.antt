@@ -1,5 +1,5 @@
 -- Lines of an input, and the limits that they are read under.
-use Rattle.std.specs.Prelude.{◌≡◌, ◌≢◌, ◌↔◌, ℕ, ◌+◌, ◌<◌, ◌≤◌, Bool, IsTrue, List, [], ◌∷◌, ◌++◌, length, ◌==◌, if◌then◌else◌, All, Option, None, Some, Result, Ok, Err}
+use Rattle.std.specs.Prelude.{◌≡◌, ◌≢◌, ◌↔◌, ℕ, ◌+◌, ◌-◌, ◌<◌, ◌≤◌, Bool, IsTrue, List, [], ◌∷◌, ◌++◌, length, ◌==◌, if◌then◌else◌, All, Option, None, Some, Result, Ok, Err}
 use Rattle.mld_io.specs.declared.faults.LineFault.{LineFault}
 use Rattle.mld_io.specs.declared.faults.LineFault.TheVariants.{ReadFault, TooLarge, NoMemory}
 
@@ -73,18 +73,36 @@ pub record IsLine (lines : LinesValue) (bytes piece : List ℕ) (taken : ℕ) (e
   pub ended_is : IsTrue ended ↔ HasNoEnd bytes
   pub left_is : left ≡ Some (after_line bytes)
 
--- there is a line, and it does not fit
-pub record IsTooLarge (lines : LinesValue) (bytes : List ℕ) : Type 0 where
-  pub some : bytes ≢ []
-  pub too_large : ¬ FitsLine lines bytes
-
--- a part of the first line was taken, and no LF
-pub record IsCutShort (bytes : List ℕ) (left : Option (List ℕ)) : Type 0 where
+-- a part of the first line was taken, and no LF: no more bytes than a line may have, and than the input has room for
+pub record IsCutShort (line room : ℕ) (bytes : List ℕ) (left : Option (List ℕ)) : Type 0 where
   pub front : List ℕ
   pub rest : List ℕ
   pub front_of : bytes ≡ front ++ rest
   pub no_end : HasNoEnd front
+  pub in_line : length front ≤ line
+  pub in_room : length front ≤ room
   pub left_is : left ≡ Some rest
+
+-- such a part of the first line was taken, and one byte more, which may be its LF; and nothing behind that byte
+pub record IsCutAtByte (line room : ℕ) (bytes : List ℕ) (left : Option (List ℕ)) : Type 0 where
+  pub front : List ℕ
+  pub byte : ℕ
+  pub rest : List ℕ
+  pub front_of : bytes ≡ front ++ byte ∷ rest
+  pub no_end : HasNoEnd front
+  pub in_line : length front ≤ line
+  pub in_room : length front ≤ room
+  pub left_is : left ≡ Some rest
+
+-- how many bytes the input has room for
+abbrev pub room_left : LinesValue → ℕ
+room_left lines = lines.all - lines.taken
+
+-- there is a line, and it does not fit; it was taken up to a byte before which it kept both limits
+pub record IsTooLarge (lines : LinesValue) (bytes : List ℕ) (left : Option (List ℕ)) : Type 0 where
+  pub some : bytes ≢ []
+  pub too_large : ¬ FitsLine lines bytes
+  pub cut : IsCutAtByte lines.line (room_left lines) bytes left
 
 -- some of the bytes were taken, and no more than this many
 pub record TakesAtMost (bytes : List ℕ) (left : Option (List ℕ)) (most : ℕ) : Type 0 where
@@ -98,9 +116,9 @@ pub record TakesAtMost (bytes : List ℕ) (left : Option (List ℕ)) (most : ℕ
 abbrev pub NextLine : LinesValue → List ℕ → Result (Option (List ℕ)) LineFault → ℕ → Bool → Option (List ℕ) → Type 0
 NextLine lines bytes (Ok None) taken ended left = IsEnd bytes left
 NextLine lines bytes (Ok (Some piece)) taken ended left = IsLine lines bytes piece taken ended left
-NextLine lines bytes (Err TooLarge) taken ended left = IsTooLarge lines bytes
-NextLine lines bytes (Err ReadFault) taken ended left = IsCutShort bytes left
-NextLine lines bytes (Err NoMemory) taken ended left = IsCutShort bytes left
+NextLine lines bytes (Err TooLarge) taken ended left = IsTooLarge lines bytes left
+NextLine lines bytes (Err ReadFault) taken ended left = IsCutShort lines.line (room_left lines) bytes left
+NextLine lines bytes (Err NoMemory) taken ended left = IsCutShort lines.line (room_left lines) bytes left
 
 -- at the end none was taken; a line took at least a byte, and kept to the input's limit
 abbrev pub Progresses : Result (Option (List ℕ)) LineFault → ℕ → ℕ → ℕ → Type 0

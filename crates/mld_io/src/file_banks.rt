@@ -6,17 +6,24 @@ ghost use Rattle.mld_io.specs.Files.{file_meter, fresh_meter, unarmed, TellsAnsw
 use crate::banks::{Banks, Side};
 use crate::faults::IoFault;
 use std::alloc::{AllocError, Global};
-use std::fs::{self, File, Files, OpenOptions};
+use std::fs::{DirBuilder, File, Files, OpenOptions};
 use std::io::{self, ErrorKind};
 use std::os::fd::AsRawFd;
-use std::os::unix::fs::FileExt;
+use std::os::unix::fs::{DirBuilderExt, FileExt, OpenOptionsExt};
 use std::path::Path;
+
+/// What a folder that is made lets its owner do, and nobody else: all.
+const FOLDER_MODE: u32 = 0o700;
+
+/// What a file that is made lets its owner do, and nobody else: read and write it.
+const FILE_MODE: u32 = 0o600;
 
 /// The device over the files `a.bank` and `b.bank` of a folder, which it opens at the first call of
 /// any kind, and tries again at the next one where that failed. What is missing of the folder and
-/// its files is then made, the folder above it has to be there. While they are open, no other
-/// program and no other device opens them: `a.bank`, which is opened first, is locked. It tells
-/// nothing of what the files give, and counts each failure.
+/// its files is then made for its owner alone, and what is there keeps its mode; the folder above
+/// has to be there. While they are open, no other program and no other device opens them: `a.bank`,
+/// which is opened first, is locked. It tells nothing of what the files give, and counts each
+/// failure.
 #[derive(Drop)]
 pub struct FileBanks<R> {
     files: BankFiles<R>,
@@ -119,8 +126,10 @@ impl<R: Files<File = File> + Drop> BankFiles<R> {
         self.file(side)?.write_all_at(piece, at)
     }
 
+    /// Makes durable what a later read needs, which is the bytes and how many they are. The time of
+    /// the last write is not, so where a byte was written over another, its data alone are.
     fn sync(&mut self, side: Side) -> io::Result<()> {
-        self.file(side)?.sync_all()
+        self.file(side)?.sync_data()
     }
 
     /// The file of a side, which is opened where it isn't.
@@ -135,41 +144,64 @@ impl<R: Files<File = File> + Drop> BankFiles<R> {
         }
     }
 
-    /// Opens the files, and makes durable that they and their folder are there. The folder above
-    /// is synced too where nothing was made: an earlier program may have ended before it did so.
+    /// Opens the files, and makes durable that they and their folder are there.
+    ///
+    /// A file that was just made is empty, and so is each that an earlier program left which ended
+    /// between making it and syncing the folders, since nothing is written before that. So the
+    /// names of both files are durable where both have bytes, and the folder's where one has.
     fn open(&self) -> io::Result<Opened> {
         let folder = self.folder.as_str();
         if folder.is_empty() {
             return Err(ErrorKind::NotFound.into());
         }
-        match fs::create_dir(&self.rt, folder) {
-            Err(error) if error.kind() != ErrorKind::AlreadyExists => return Err(error),
-            _ => {}
-        }
+        make_folder(&self.rt, folder)?;
         let a = open_or_make(&self.rt, self.a.as_str())?;
         a.try_lock()?;
         let b = open_or_make(&self.rt, self.b.as_str())?;
-        sync_folder(&self.rt, folder)?;
-        match Path::new(folder).parent() {
-            Some(above) if !above.as_str().is_empty() => sync_folder(&self.rt, above.as_str())?,
-            _ => sync_folder(&self.rt, ".")?,
+        let (no_a, no_b) = (is_empty(&a)?, is_empty(&b)?);
+        if no_a || no_b {
+            sync_folder(&self.rt, folder)?;
+        }
+        if no_a && no_b {
+            sync_above(&self.rt, folder)?;
         }
         Ok(Opened { a, b })
     }
 }
 
-/// Opens a file to read and write, and makes it where it is missing.
+/// Makes a folder for its owner alone, where it is missing.
+fn make_folder<R: Files<File = File>>(rt: &R, path: &str) -> io::Result<()> {
+    match DirBuilder::new().mode(FOLDER_MODE).create(rt, path) {
+        Err(error) if error.kind() != ErrorKind::AlreadyExists => Err(error),
+        _ => Ok(()),
+    }
+}
+
+/// Opens a file to read and write, and makes it for its owner alone where it is missing.
 fn open_or_make<R: Files<File = File>>(rt: &R, path: &str) -> io::Result<File> {
     let file = OpenOptions::new()
         .read(true)
         .write(true)
         .create(true)
+        .mode(FILE_MODE)
         .open(rt, path)?;
     // What is meant for a standard stream that was closed must not land in the bank.
     if file.as_raw_fd() <= 2 {
         return file.try_clone();
     }
     Ok(file)
+}
+
+fn is_empty(file: &File) -> io::Result<bool> {
+    Ok(file.metadata()?.len() == 0)
+}
+
+/// Makes durable which names stand in the folder above a folder.
+fn sync_above<R: Files<File = File>>(rt: &R, folder: &str) -> io::Result<()> {
+    match Path::new(folder).parent() {
+        Some(above) if !above.as_str().is_empty() => sync_folder(rt, above.as_str()),
+        _ => sync_folder(rt, "."),
+    }
 }
 
 /// Makes durable which names stand in a folder.

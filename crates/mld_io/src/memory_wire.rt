@@ -102,6 +102,7 @@ impl Wire for MemoryWire {
         ensures log { TakesEvent self.old.log result (Some self.new.log) }
         ensures taken { CountsEvent (length (taken_of self.old.log)) result (length (taken_of self.new.log)) }
         ensures sized { IfOk result (λ event. IsTrue (is_event event)) }
+        ensures no_memory { IsErrOf result IoFault.NoMemory → self.new ≡ self.old }
         ensures cause { HasSinkCause self.old.faults self.new.faults result }
         ensures fails { IsErrOf result IoFault.Failed ↔ Contains self.old.fails self.old.calls }
         ensures moves { NextMoves self.old result self.new }
@@ -121,6 +122,7 @@ impl Wire for MemoryWire {
     fn send(&mut self, conn: u32, piece: &[u8]) -> Result<(), IoFault>
         ensures log { TellsSent self.old.log conn piece.now result (Some self.new.log) }
         ensures taken { length (taken_of self.new.log) ≡ length (taken_of self.old.log) }
+        ensures no_memory { IsErrOf result IoFault.NoMemory → self.new ≡ self.old }
         ensures cause { HasSinkCause self.old.faults self.new.faults result }
         ensures fails { IsErrOf result IoFault.Failed ↔ Contains self.old.fails self.old.calls }
         ensures moves { SendMoves self.old conn piece.now result self.new }

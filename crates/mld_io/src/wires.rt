@@ -1,5 +1,5 @@
 //! Connections over which bytes come and go.
-ghost use Rattle.std.specs.Prelude.{◌≡◌, ℕ, ◌-◌, ◌^◌, ◌<◌, Option, None, Some, IfOk, IsTrue};
+ghost use Rattle.std.specs.Prelude.{◌≡◌, ℕ, ◌-◌, ◌^◌, ◌<◌, Option, None, Some, IfOk, IsErrOf, IsTrue};
 ghost use Rattle.mld_io.specs.Faults.{HasSinkCause};
 ghost use Rattle.mld_io.specs.Wires.{WireLog, TakesEvent, CountsEvent, TellsSent, after_shut, is_event};
 
@@ -22,13 +22,15 @@ pub trait Wire {
     ///
     /// # Errors
     ///
-    /// `Failed` where the wire failed, which counts as a fault, and `NoMemory`. No event is taken.
+    /// `Failed` where the wire failed, which counts as a fault. `NoMemory` leaves the wire as it was. No event is
+    /// taken.
     fn next(&mut self) -> Result<Event, IoFault>
         requires { taken self.old < 2 ^ 64 - 1 }
         ensures log { (l : WireLog) → log self.old ≡ Some l → TakesEvent l result (log self.new) }
         ensures untold { log self.old ≡ None → log self.new ≡ None }
         ensures taken { CountsEvent (taken self.old) result (taken self.new) }
         ensures sized { IfOk result (λ event. IsTrue (is_event event)) }
+        ensures no_memory { IsErrOf result IoFault.NoMemory → self.new ≡ self.old }
         ensures cause { HasSinkCause (faults self.old) (faults self.new) result };
 
     /// Sends the whole piece on a connection. What is sent on a connection that is gone is dropped,
@@ -36,12 +38,13 @@ pub trait Wire {
     ///
     /// # Errors
     ///
-    /// `Failed` where the wire failed, which counts as a fault, and `NoMemory`. Nothing is told as
-    /// sent then.
+    /// `Failed` where the wire failed, which counts as a fault. `NoMemory` leaves the wire as it was. Nothing is
+    /// told as sent then.
     fn send(&mut self, conn: u32, piece: &[u8]) -> Result<(), IoFault>
         ensures log { (l : WireLog) → log self.old ≡ Some l → TellsSent l conn piece.now result (log self.new) }
         ensures untold { log self.old ≡ None → log self.new ≡ None }
         ensures taken { taken self.new ≡ taken self.old }
+        ensures no_memory { IsErrOf result IoFault.NoMemory → self.new ≡ self.old }
         ensures cause { HasSinkCause (faults self.old) (faults self.new) result };
 
     /// Shuts a connection, behind what was sent on it. One that isn't open stays as it was.

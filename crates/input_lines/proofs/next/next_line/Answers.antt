@@ -1,13 +1,6 @@
-use Rattle.std.proofs.Common.{◌≡◌, ◌≢◌, ◌∙◌, ◌+◌, ◌-◌, ap, refl, sym, ℕ, List, Bool, Option, Err}
-use Rattle.mld_io.specs.Lines.{LinesValue, NextLine, TakesAtMost}
-use Rattle.mld_io.specs.declared.faults.LineFault.{LineFault}
+use Rattle.std.proofs.Common.{◌≡◌, ◌∙◌, ap, sym}
 use Rattle.mld_io.specs.declared.faults.LineFault.TheVariants as line_faults
-use Rattle.input_lines.specs.TooLarge.{IsUnderLimits}
-use Rattle.input_lines.specs.HowFar.{IsBrokenOff}
-use Rattle.input_lines.specs.declared.faults.InputFault.{InputFault}
-use Rattle.input_lines.specs.declared.faults.InputFault.TheVariants as faults
-use Rattle.input_lines.proofs.HowFarLemmas.{few_taken}
-use Rattle.input_lines.proofs.TakenLemmas.{by_ended, ok_none, not_ended, takes_line, takes_line_none, none_empty, line_ended, line_ended_none, breaks_limits, cut_short}
+use Rattle.input_lines.proofs.TakenLemmas.{by_ended, ok_none, not_ended, takes_line, takes_line_none, none_empty, line_ended, line_ended_none, breaks_limits, cut_past, cut_within}
 use Rattle.input_lines.proofs.next.next_line.Goals as goal
 
 pub returns-in-Ok-clause-line : goal.returns-in-Ok-clause-line
@@ -39,29 +32,19 @@ returns-in-Err-TooLarge-clause-large g c = λ at is. (
       (c.in-Err-TooLarge.ensures.line (not_ended c.args.lines.now.ended c.in-Err-TooLarge.field-0 (λ yes. (c.in-Err-TooLarge.ensures.ended yes).0)) bytes told),
 )
 
--- what was taken where a call failed, by its fault
-broken : (lines : LinesValue) (bytes : List ℕ) (fault : LineFault) (told : InputFault) (taken : ℕ) (ended : Bool) (left : Option (List ℕ)) → IsUnderLimits lines
-    → (((line : ℕ) → told ≢ faults.TooLarge line) → fault ≢ line_faults.TooLarge) → NextLine lines bytes (Err fault) taken ended left
-    → TakesAtMost bytes left ((lines.all - lines.taken) + 1) → IsBrokenOff lines.taken told bytes left
-broken lines bytes fault told taken ended left under differs next few =
-    record { few = few_taken lines bytes left under few; cut = λ fits. cut_short lines bytes fault taken ended left (differs fits) next }
-
 pub returns-in-Err-ReadFault-clause-broken_off : goal.returns-in-Err-ReadFault-clause-broken_off
 returns-in-Err-ReadFault-clause-broken_off g c = λ bytes told.
-    broken c.args.lines.now bytes c.in-Err-ReadFault.field-0 faults.ReadFault _ _ _ c.requires.limits
-    (λ fits is. let same : line_faults.ReadFault ≡ line_faults.TooLarge = sym c.in-Err-ReadFault.field-0-is ∙ is in absurd (cc (same)))
+    cut_within c.args.lines.now bytes c.in-Err-ReadFault.field-0 _ _ _ c.requires.limits
+    (λ is. let same : line_faults.ReadFault ≡ line_faults.TooLarge = sym c.in-Err-ReadFault.field-0-is ∙ is in absurd (cc (same)))
     (c.in-Err-ReadFault.ensures.line (not_ended c.args.lines.now.ended c.in-Err-ReadFault.field-0 (λ yes. (c.in-Err-ReadFault.ensures.ended yes).0)) bytes told)
-    (c.next.ensures.frugal bytes told)
 
 pub returns-in-Err-TooLarge-clause-broken_off : goal.returns-in-Err-TooLarge-clause-broken_off
 returns-in-Err-TooLarge-clause-broken_off g c = λ bytes told.
-    broken c.args.lines.now bytes c.in-Err-TooLarge.field-0 (faults.TooLarge c.args.number) _ _ _ c.requires.limits (λ fits. absurd (fits c.args.number refl))
+    cut_past c.args.lines.now bytes c.in-Err-TooLarge.field-0 _ _ _ c.requires.limits c.in-Err-TooLarge.field-0-is
     (c.in-Err-TooLarge.ensures.line (not_ended c.args.lines.now.ended c.in-Err-TooLarge.field-0 (λ yes. (c.in-Err-TooLarge.ensures.ended yes).0)) bytes told)
-    (c.next.ensures.frugal bytes told)
 
 pub returns-in-Err-NoMemory-clause-broken_off : goal.returns-in-Err-NoMemory-clause-broken_off
 returns-in-Err-NoMemory-clause-broken_off g c = λ bytes told.
-    broken c.args.lines.now bytes c.in-Err-NoMemory.field-0 faults.NoMemory _ _ _ c.requires.limits
-    (λ fits is. let same : line_faults.NoMemory ≡ line_faults.TooLarge = sym c.in-Err-NoMemory.field-0-is ∙ is in absurd (cc (same)))
+    cut_within c.args.lines.now bytes c.in-Err-NoMemory.field-0 _ _ _ c.requires.limits
+    (λ is. let same : line_faults.NoMemory ≡ line_faults.TooLarge = sym c.in-Err-NoMemory.field-0-is ∙ is in absurd (cc (same)))
     (c.in-Err-NoMemory.ensures.line (not_ended c.args.lines.now.ended c.in-Err-NoMemory.field-0 (λ yes. (c.in-Err-NoMemory.ensures.ended yes).0)) bytes told)
-    (c.next.ensures.frugal bytes told)

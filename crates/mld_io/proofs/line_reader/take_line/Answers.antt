@@ -1,5 +1,5 @@
 -- What each answer says of the bytes that the source tells.
-use Rattle.std.proofs.Common.{◌≡◌, ℕ, List, [], ◌∷◌, ◌++◌, Ok, Option, refl, ap, ◌∙◌, subst, arith}
+use Rattle.std.proofs.Common.{◌≡◌, ℕ, List, [], ◌∷◌, ◌++◌, Ok, Option, refl, ap, ◌∙◌, subst, arith, length-append}
 use Rattle.std.proofs.lemmas.Result.{err_from_is_err_and}
 use Rattle.mld_io.specs.Reads.{TakesByte}
 use Rattle.mld_io.proofs.LineSteps.{ReadSoFar-push, IsCutShort-from_part, more_bytes, no_more_bytes, IsLine-from_lf, IsLine-from_end, IsTooLarge-from_all, IsTooLarge-from_line, IsEnd-from_start, TakesAtMost-with_byte, TakesAtMost-front, TakesAtMost-all}
@@ -13,14 +13,14 @@ pub returns-in_err-byte-clause-line : goal.returns-in_err-byte-clause-line
 returns-in_err-byte-clause-line g c = λ bytes e.
     let s = c.loop-bytes.invariant.left bytes e in
     let p = err_from_is_err_and c.from_residual-in_err-byte.result c.from_residual-in_err-byte.ensures.1 in
-    rw (p.1, p.2) (IsCutShort-from_part bytes c.loop-bytes.bytes.items s.rest _ s.no_end s.front_of (c.in_err-byte.ensures.byte s.rest s.left_is))
+    rw (p.1, p.2) (IsCutShort-from_part _ _ bytes c.loop-bytes.bytes.items s.rest _ s.no_end s.front_of (c.in_err-byte.ensures.byte s.rest s.left_is) (omega arith) (omega arith))
 
 pub returns-then-size-room-clause-line : goal.returns-then-size-room-clause-line
 returns-then-size-room-clause-line g c = λ bytes e.
     let s = c.loop-bytes.invariant.left bytes e in
     let front = c.loop-bytes.bytes.items in
     let m = more_bytes bytes front c.in-Some.byte _ _ s (at_option _ _ _ _ c.in-Some.is (c.in_ok-byte.ensures.byte s.rest s.left_is)) in
-    IsTooLarge-from_all _ bytes front m.0 c.in-Some.byte s.no_end m.1 (omega arith)
+    IsTooLarge-from_all _ bytes front m.0 c.in-Some.byte _ s.no_end m.1 m.2 (omega arith) (omega arith) (omega arith)
 
 pub returns-then-byte-eq-LF-clause-line : goal.returns-then-byte-eq-LF-clause-line
 returns-then-byte-eq-LF-clause-line g c = λ bytes e.
@@ -34,7 +34,7 @@ returns-then-len-line-clause-line g c = λ bytes e.
     let s = c.loop-bytes.invariant.left bytes e in
     let front = c.loop-bytes.bytes.items in
     let m = more_bytes bytes front c.in-Some.byte _ _ s (at_option _ _ _ _ c.in-Some.is (c.in_ok-byte.ensures.byte s.rest s.left_is)) in
-    IsTooLarge-from_line _ bytes front m.0 c.in-Some.byte s.no_end c.if-byte-eq-LF.false m.1 (omega arith)
+    IsTooLarge-from_line _ bytes front m.0 c.in-Some.byte _ s.no_end c.if-byte-eq-LF.false m.1 m.2 (omega arith) (omega arith) (omega arith)
 
 pub loop-bytes-preserved : goal.loop-bytes-preserved
 loop-bytes-preserved g c = record {
@@ -57,7 +57,8 @@ returns-in_err-push-clause-line g c = λ bytes e.
     let m = more_bytes bytes front c.in-Some.byte _ _ s (at_option _ _ _ _ c.in-Some.is (c.in_ok-byte.ensures.byte s.rest s.left_is)) in
     let more = ReadSoFar-push bytes front m.0 c.in-Some.byte _ s.no_end c.if-byte-eq-LF.false m.1 m.2 in
     let p = err_from_is_err_and c.from_residual-in_err-push.result c.from_residual-in_err-push.ensures.1 in
-    rw (p.1, p.2) (IsCutShort-from_part bytes (front ++ c.in-Some.byte ∷ []) more.rest _ more.no_end more.front_of more.left_is)
+    let size = length-append front (c.in-Some.byte ∷ []) in
+    rw (p.1, p.2) (IsCutShort-from_part _ _ bytes (front ++ c.in-Some.byte ∷ []) more.rest _ more.no_end more.front_of more.left_is (omega (arith, size)) (omega (arith, size)))
 
 pub returns-then-size-eq0-clause-line : goal.returns-then-size-eq0-clause-line
 returns-then-size-eq0-clause-line g c = λ bytes e.
