@@ -9,6 +9,7 @@ pub mod TextLaws
 pub mod GivenBack
 pub mod Halves
 pub mod PlainEnds
+pub mod Folders
 pub mod LeastTexts
 pub mod Labels
 pub mod CompactFronts

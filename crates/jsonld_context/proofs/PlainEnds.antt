@@ -72,14 +72,14 @@ split_more byte false [] more first others is = cc is
 split_more byte false (part ∷ parts) more first others is = refl
 
 -- a text without a slash is one segment
-one_segment : (text : List ℕ) → list_any is_slash text ≡ false → segments text ≡ text ∷ []
+pub one_segment : (text : List ℕ) → list_any is_slash text ≡ false → segments text ≡ text ∷ []
 one_segment [] h = refl
 one_segment (byte ∷ bytes) h =
     let parts = or_parts (is_slash byte) (list_any is_slash bytes) h in
     ap (λ b. cond b ([] ∷ segments bytes) (onto_first byte (segments bytes))) parts.0 ∙ ap (onto_first byte) (one_segment bytes parts.1)
 
 -- and the last one behind a slash
-segments_more : (path text : List ℕ) → segments text ≡ text ∷ [] → segments (path ++ 47 ∷ text) ≡ segments path ++ text ∷ []
+pub segments_more : (path text : List ℕ) → segments text ≡ text ∷ [] → segments (path ++ 47 ∷ text) ≡ segments path ++ text ∷ []
 segments_more [] text one = ap (λ parts. [] ∷ parts) one
 segments_more (byte ∷ path) text one =
     let some = some_segment path in
@@ -91,7 +91,7 @@ concat_more [] piece = append-nil piece
 concat_more (part ∷ parts) piece = ap (λ more. part ++ more) (concat_more parts piece) ∙ sym (append_assoc part (concat parts) piece)
 
 -- the text of pieces that are kept, the last one first
-kept_more : (kept : List (List ℕ)) (piece : List ℕ) → concat (reverse (piece ∷ kept)) ≡ concat (reverse kept) ++ piece
+pub kept_more : (kept : List (List ℕ)) (piece : List ℕ) → concat (reverse (piece ∷ kept)) ≡ concat (reverse kept) ++ piece
 kept_more kept piece = ap concat (reverse-append (piece ∷ []) kept) ∙ concat_more (reverse kept) piece
 
 -- the text of a path ends with a last segment: it is that, or a slash stands before it
@@ -100,7 +100,7 @@ data Ends (whole text : List ℕ) : Type 0 where
   behind : (front : List ℕ) → whole ≡ front ++ 47 ∷ text → Ends whole text
 
 module _ (text : List ℕ) (stays : is_dots text ≡ false) where
-  keep_at : (kept : List (List ℕ)) (dot two : Bool) → (dot || two) ≡ false → cond dot kept (cond two (drop 1 kept) ((47 ∷ text) ∷ kept)) ≡ (47 ∷ text) ∷ kept
+  pub keep_at : (kept : List (List ℕ)) (dot two : Bool) → (dot || two) ≡ false → cond dot kept (cond two (drop 1 kept) ((47 ∷ text) ∷ kept)) ≡ (47 ∷ text) ∷ kept
   keep_at kept true two h = cc h
   keep_at kept false true h = cc h
   keep_at kept false false h = refl
@@ -138,7 +138,7 @@ module _ (text : List ℕ) (stays : is_dots text ≡ false) where
 -- ---- directories
 
 -- where the last slash of a text is
-data Slashes (text : List ℕ) : Type 0 where
+pub data Slashes (text : List ℕ) : Type 0 where
   without : list_any is_slash text ≡ false → Slashes text
   last : (front rest : List ℕ) → text ≡ front ++ 47 ∷ rest → list_any is_slash rest ≡ false → Slashes text
 
@@ -151,7 +151,7 @@ slashes_at byte bytes false is (without none) = without (or_from (is_slash byte)
 slashes_at byte bytes true is (last front rest e none) = last (byte ∷ front) rest (ap (λ more. byte ∷ more) e) none
 slashes_at byte bytes false is (last front rest e none) = last (byte ∷ front) rest (ap (λ more. byte ∷ more) e) none
 
-slashes : (text : List ℕ) → Slashes text
+pub slashes : (text : List ℕ) → Slashes text
 slashes [] = without refl
 slashes (byte ∷ bytes) = slashes_at byte bytes (is_slash byte) refl (slashes bytes)
 
@@ -172,13 +172,13 @@ module _ (byte : ℕ) (bytes : List ℕ) (plain : is_plain (byte ∷ bytes) ≡ 
       let parts = and_parts (is_plain_letter first) (list_all is_plain_letter rest) h in
       or_from (is_slash first) (list_any is_slash rest) (grind (arith, nat_tests)) (no_slashes rest parts.1)
 
-  one : segments letters ≡ letters ∷ []
+  pub one : segments letters ≡ letters ∷ []
   one = one_segment letters (no_slashes letters plain)
 
   first_plain : is_plain_letter byte ≡ true
   first_plain = (and_parts (is_plain_letter byte) (list_all is_plain_letter bytes) plain).0
 
-  stays_so : is_dots letters ≡ false
+  pub stays_so : is_dots letters ≡ false
   stays_so = let h = first_plain in grind (arith, nat_tests)
 
   -- a plain text in the place of a path's last segment
@@ -257,10 +257,10 @@ none_behind test text h =
     ap (λ b. option_map (λ place. drop (place + 1) text) (cond b (Some (position_or_len test text)) None)) out
 
 -- what stands before a path
-abbrev start : Option (List ℕ) → Option (List ℕ) → List ℕ
+abbrev pub start : Option (List ℕ) → Option (List ℕ) → List ℕ
 start scheme authority = delimited_by [] scheme (codes ":") ++ delimited_by (codes "//") authority []
 
-written : (scheme authority : Option (List ℕ)) (path : List ℕ)
+pub written : (scheme authority : Option (List ℕ)) (path : List ℕ)
     → recomposed (record { scheme = scheme; authority = authority; path = path; query = None; fragment = None }) ≡ start scheme authority ++ path
 unfolding recomposed
 written scheme authority path =
@@ -315,7 +315,7 @@ module _ (byte : ℕ) (bytes : List ℕ) (plain : is_plain (byte ∷ bytes) ≡ 
   no_authority = let h = first_plain byte bytes plain in grind (arith, nat_tests)
 
   -- a plain text is a path alone
-  split_plain : split whole_text ≡ plain_parts
+  pub split_plain : split whole_text ≡ plain_parts
   unfolding split
   split_plain =
       let scheme : scheme_of (before_first is_question_mark (before_first is_hash whole_text)) ≡ None =
@@ -331,7 +331,7 @@ module _ (byte : ℕ) (bytes : List ℕ) (plain : is_plain (byte ∷ bytes) ≡ 
       λ i. record { scheme = scheme i; authority = authority i; path = path i; query = query i; fragment = fragment i }
 
   -- it takes the place of the last segment of a base's path
-  placed : (base : Parts) → transformed base plain_parts
+  pub placed : (base : Parts) → transformed base plain_parts
       ≡ record { scheme = base.scheme; authority = base.authority; path = remove_dot_segments (merged base whole_text); query = None; fragment = None }
   unfolding transformed
   placed base =

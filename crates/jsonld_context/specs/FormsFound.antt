@@ -3,12 +3,13 @@ use Rattle.std.specs.Prelude.{◌≡◌, ℕ, zero, suc, ◌+◌, List, [], ◌�
 use Rattle.std.specs.Cmp.Lexicographic.{slice_cmp}
 use Rattle.std.specs.BTreeMap.{get_by_text}
 use Rattle.std.specs.List.{AllByRecursion, filter_map, reduce}
-use Rattle.std.specs.Option.{is_none, option_map}
+use Rattle.std.specs.Option.{is_none, option_map, option_and_then}
 use Rattle.std.specs.Ordering.{nat_cmp, is_lt}
+use Rattle.text_rules.specs.Resolution.{folder_of}
 use Rattle.rdf_terms.specs.Literal.{is_same}
 use Rattle.jsonld_context.specs.Context.{ContextValue, IsContext}
-use Rattle.jsonld_context.specs.ShortForms.{term_for, is_rest, lesser, least_with, least_compact}
-use Rattle.text_rules.specs.TextForms.{ends_in_delimiter}
+use Rattle.jsonld_context.specs.ShortForms.{rest_behind, if_passes, term_for, is_rest, lesser, least_with, least_compact}
+use Rattle.text_rules.specs.TextForms.{ends_in_delimiter, is_plain}
 use Rattle.jsonld_context.specs.declared.by_iri.FormsByIri.{FormsByIri}
 use Rattle.jsonld_context.specs.declared.definitions.Definition.{Definition}
 
@@ -23,6 +24,10 @@ label_for front term = if term.is_prefix && is_same term.iri front then Some (te
 -- the least of them
 abbrev pub least_label : List Definition → List ℕ → Option (List ℕ)
 least_label terms front = reduce lesser (filter_map (label_for front) terms)
+
+-- the plain text behind the folder of a base
+abbrev pub plain_behind : List ℕ → List ℕ → Option (List ℕ)
+plain_behind folder iri = option_and_then (if_passes is_plain) (rest_behind folder iri)
 
 -- the compact IRI whose prefix's IRI has so many bytes, where prefixes are found so; such an IRI ends as those of prefixes do
 abbrev pub compact_behind : (List ℕ → Option (List ℕ)) → List ℕ → ℕ → Option (List ℕ)
@@ -48,8 +53,9 @@ abbrev pub is_lesser : Option (List ℕ) → List ℕ → Bool
 is_lesser None text = true
 is_lesser (Some other) text = is_lt (slice_cmp nat_cmp text other)
 
--- what every context keeps, what is found beside its terms included
-pub record IsContextWith (value : ContextValue) (forms : FormsByIri) : Type 0 where
+-- what every context keeps, what is found beside its terms and the folder of its base included
+pub record IsContextWith (value : ContextValue) (folder : List ℕ) (forms : FormsByIri) : Type 0 where
   pub context : IsContext value
+  pub folder_is : folder ≡ folder_of value.base
   pub delimited : AllByRecursion IsDelimited value.terms
   pub found : AreFormsOf value.terms forms

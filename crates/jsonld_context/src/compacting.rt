@@ -1,14 +1,12 @@
 //! The shortest forms of IRIs as keys and as ids (JSON-LD 1.1 API, section 6.2).
-ghost use Rattle.std.specs.Prelude.{◌≡◌, ◌+◌, ◌<◌, true, false, List, take, drop, length, nat_eq, IsTrue, IfOk, MatchOption};
+ghost use Rattle.std.specs.Prelude.{◌≡◌, ◌+◌, ◌<◌, ℕ, true, false, List, take, drop, length, nat_eq, IfOk, MatchOption};
 ghost use Rattle.std.specs.BTreeMap.{get_by_text};
 ghost use Rattle.std.specs.List.{starts_with};
 ghost use Rattle.std.specs.Option.{option_copied, option_map, unwrap_or};
 ghost use Rattle.std.specs.String.{string_bytes};
-ghost use Rattle.text_rules.specs.Iri.{is_absolute};
-ghost use Rattle.text_rules.specs.Resolution.{resolved};
-ghost use Rattle.rdf_terms.specs.Literal.{is_same};
+ghost use Rattle.text_rules.specs.Resolution.{folder_of};
 ghost use Rattle.jsonld_context.specs.ShortForms.{plain_key, plain_id, rest_behind, lesser, least_with, key_form, id_form};
-ghost use Rattle.jsonld_context.specs.FormsFound.{AreFormsOf, compact_behind, least_behind};
+ghost use Rattle.jsonld_context.specs.FormsFound.{AreFormsOf, plain_behind, compact_behind, least_behind};
 ghost use Rattle.jsonld_context.specs.Context.{AscendByName};
 ghost use Rattle.text_rules.specs.TextForms.{ends_in_delimiter};
 ghost use Rattle.jsonld_context.specs.declared.definitions.Definition.{Definition};
@@ -18,7 +16,7 @@ use crate::definitions::Definition;
 use crate::expanding::find_term;
 use crate::prefixes::joined;
 use std::alloc::{AllocError, Global};
-use text_rules::{IriFault, Text, begins_authority, is_delimiter, is_plain, plain_end, resolve};
+use text_rules::{Text, begins_authority, is_delimiter, is_plain};
 
 /// The plain text behind the vocabulary, which is no term.
 fn plain_key<'a>(vocabulary: &str, terms: &[Definition], iri: &'a str) -> Option<&'a str>
@@ -35,31 +33,21 @@ fn plain_key<'a>(vocabulary: &str, terms: &[Definition], iri: &'a str) -> Option
     }
 }
 
-/// Whether a base resolves a text to an IRI.
-fn resolves_to(alloc: Global, base: &str, text: &str, iri: &str) -> Result<bool, AllocError>
-    requires base { IsTrue (is_absolute base.now) }
-    requires iri { IsTrue (is_absolute iri.now) }
-    ensures { IfOk result (λ same. same ≡ is_same (resolved base.now text.now) iri.now) }
+/// The plain text behind the folder of a base.
+fn plain_behind<'a>(folder: &str, iri: &'a str) -> Option<&'a str>
+    ensures { option_copied result ≡ plain_behind folder.now iri.now }
 {
-    match resolve(alloc, base, text) {
-        Ok(target) => Ok(target.as_str() == iri),
-        Err(IriFault::NotIri) => Ok(false),
-        Err(IriFault::NoMemory) => Err(AllocError),
-    }
+    let Some(text) = rest_behind(folder, iri) else {
+        return None;
+    };
+    if is_plain(text) { Some(text) } else { None }
 }
 
-/// The plain text that the base resolves to the IRI.
-fn plain_id<'a>(alloc: Global, base: &str, iri: &'a str) -> Result<Option<&'a str>, AllocError>
-    requires base { IsTrue (is_absolute base.now) }
-    requires iri { IsTrue (is_absolute iri.now) }
-    ensures { IfOk result (λ text. option_copied text ≡ plain_id base.now iri.now) }
+/// The plain text that the base of a folder resolves to the IRI.
+pub(crate) fn plain_id<'a>(folder: &str, iri: &'a str) -> Option<&'a str>
+    ensures { (base : List ℕ) → folder.now ≡ folder_of base → option_copied result ≡ plain_id base iri.now }
 {
-    let text = plain_end(iri);
-    if is_plain(text) && resolves_to(alloc, base, text, iri)? {
-        Ok(Some(text))
-    } else {
-        Ok(None)
-    }
+    plain_behind(folder, iri)
 }
 
 /// What stands in a text behind a front, where it begins so.
@@ -190,20 +178,18 @@ pub(crate) fn compact_key(
     compact_or_whole(alloc, &forms.prefixes, iri)
 }
 
-/// The id of an IRI.
+/// The id of an IRI, by the folder of the base.
 #[tactic(auto, unfolding(crate::specs::ShortForms::id_form))]
 pub(crate) fn compact_id(
     alloc: Global,
-    base: &str,
+    folder: &str,
     forms: &FormsByIri,
     iri: &str,
 ) -> Result<Text, AllocError>
-    requires base { IsTrue (is_absolute base.now) }
-    requires iri { IsTrue (is_absolute iri.now) }
-    ensures { (terms : List Definition) → AreFormsOf terms forms.now
-        → IfOk result (λ text. text ≡ id_form base.now terms iri.now) }
+    ensures { (base : List ℕ) (terms : List Definition) → folder.now ≡ folder_of base → AreFormsOf terms forms.now
+        → IfOk result (λ text. text ≡ id_form base terms iri.now) }
 {
-    match plain_id(alloc, base, iri)? {
+    match plain_id(folder, iri) {
         Some(text) => Text::new(alloc, text),
         None => compact_or_whole(alloc, &forms.prefixes, iri),
     }

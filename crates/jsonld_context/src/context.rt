@@ -1,5 +1,5 @@
 //! Contexts.
-ghost use Rattle.std.specs.Prelude.{◌≡◌, Ok, Some, false, codes, IsTrue, IfOk, IfErr};
+ghost use Rattle.std.specs.Prelude.{◌≡◌, Ok, Some, false, codes, IsTrue, IfOk, IfErr, IfSome};
 ghost use Rattle.std.specs.Option.{option_copied, is_some};
 ghost use Rattle.text_rules.specs.Domain.{is_domain};
 ghost use Rattle.serde_json.specs.Data.{object};
@@ -20,12 +20,13 @@ use rdf_terms::Iri;
 use serde_json::{Map, Value};
 use std::alloc::{AllocError, Global};
 use std::marker::Model;
-use text_rules::Text;
+use text_rules::{Text, folder_of};
 
 /// How keys and ids are read: a base, a vocabulary and terms (JSON-LD 1.1, section 3.1).
 #[derive(Debug, Drop)]
 pub struct Context {
     base: Text,
+    folder: Text,
     vocabulary: Text,
     terms: Vec<Definition>,
     forms: FormsByIri,
@@ -39,7 +40,7 @@ impl Model for Context {
 
     ghost view = { λ c. record { base = c.base; vocabulary = c.vocabulary; terms = c.terms.items } };
 
-    ghost invariant = { λ c. IsContextWith (record { base = c.base; vocabulary = c.vocabulary; terms = c.terms.items }) c.forms };
+    ghost invariant = { λ c. IsContextWith (record { base = c.base; vocabulary = c.vocabulary; terms = c.terms.items }) c.folder c.forms };
 }
 
 impl PartialEq for Context {
@@ -69,11 +70,13 @@ impl Context {
         ensures err { IfErr result (λ fault. fault ≡ faults.NoMemory) }
     {
         let base = reading::domain_base(alloc, domain)?;
+        let folder = folder_of(alloc, base.as_str())?;
         let vocabulary = reading::domain_vocabulary(alloc, domain)?;
         let terms = Vec::new(alloc);
         let forms = forms_of(alloc, &terms)?;
         Ok(Context {
             base,
+            folder,
             vocabulary,
             terms,
             forms,
@@ -135,10 +138,12 @@ impl Context {
         ensures err { IfErr result (IsToldBy (read_context domain.now (object (members_view all.now.entries)))) }
     {
         let base = reading::base_of(alloc, all, domain)?;
+        let folder = folder_of(alloc, base.as_str())?;
         let terms = reading::read_terms(alloc, vocabulary.as_str(), all)?;
         let forms = forms_of(alloc, &terms)?;
         Ok(Context {
             base,
+            folder,
             vocabulary,
             terms,
             forms,
@@ -150,11 +155,13 @@ impl Context {
         ensures { IfOk result (λ copy. copy ≡ self.now) }
     {
         let base = self.base.share()?;
+        let folder = self.folder.share()?;
         let vocabulary = self.vocabulary.share()?;
         let terms = share_all(alloc, &self.terms)?;
         let forms = forms_of(alloc, &terms)?;
         Ok(Context {
             base,
+            folder,
             vocabulary,
             terms,
             forms,
@@ -215,6 +222,13 @@ impl Context {
     pub fn compact_id(&self, alloc: Global, iri: &Iri) -> Result<Text, AllocError>
         ensures { IfOk result (λ text. text ≡ compact_id self.now iri.now) }
     {
-        compacting::compact_id(alloc, self.base.as_str(), &self.forms, iri.as_str())
+        compacting::compact_id(alloc, self.folder.as_str(), &self.forms, iri.as_str())
+    }
+
+    /// The id of an IRI where it is a plain text, which stands at the IRI's end. It takes no memory.
+    pub fn plain_id<'a>(&self, iri: &'a Iri) -> Option<&'a str>
+        ensures { IfSome result (λ text. text.now ≡ compact_id self.now iri.now) }
+    {
+        compacting::plain_id(self.folder.as_str(), iri.as_str())
     }
 }

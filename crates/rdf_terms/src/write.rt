@@ -15,9 +15,9 @@ fn append_iri(out: &mut Vec<u8>, iri: &Iri) -> Result<(), AllocError>
     ensures ok { OnOk result (out.new.items ≡ out.old.items ++ iri_text iri.now) }
     ensures err { OnErr result (KeepsStart out.old.items out.new.items) }
 {
-    out.extend_from_slice(b"<")?;
+    out.push(b'<')?;
     out.extend_from_slice(iri.as_str().as_bytes())?;
-    out.extend_from_slice(b">")
+    Ok(out.push(b'>')?)
 }
 
 /// Appends an IRI and a space.
@@ -26,7 +26,7 @@ fn append_spaced_iri(out: &mut Vec<u8>, iri: &Iri) -> Result<(), AllocError>
     ensures err { OnErr result (KeepsStart out.old.items out.new.items) }
 {
     append_iri(out, iri)?;
-    out.extend_from_slice(b" ")
+    Ok(out.push(b' ')?)
 }
 
 /// Appends what is written for a datatype: nothing for xsd:string.
@@ -50,7 +50,7 @@ fn append_suffix(out: &mut Vec<u8>, kind: &Kind) -> Result<(), AllocError>
         Kind::Plain => Ok(()),
         Kind::Datatype(datatype) => append_datatype(out, datatype),
         Kind::Language(tag) => {
-            out.extend_from_slice(b"@")?;
+            out.push(b'@')?;
             out.extend_from_slice(tag.as_str().as_bytes())
         }
     }
@@ -61,9 +61,9 @@ fn append_literal(out: &mut Vec<u8>, literal: &Literal) -> Result<(), AllocError
     ensures ok { OnOk result (out.new.items ≡ out.old.items ++ literal_text literal.now) }
     ensures err { OnErr result (KeepsStart out.old.items out.new.items) }
 {
-    out.extend_from_slice(b"\"")?;
+    out.push(b'"')?;
     append_escaped(out, literal.lexical.as_str().as_bytes())?;
-    out.extend_from_slice(b"\"")?;
+    out.push(b'"')?;
     append_suffix(out, &literal.kind)
 }
 
@@ -88,15 +88,19 @@ fn append_triple(out: &mut Vec<u8>, triple: &Triple) -> Result<(), AllocError>
     append_spaced_iri(out, &triple.s)?;
     append_spaced_iri(out, &triple.p)?;
     append_term(out, &triple.o)?;
-    out.extend_from_slice(b" .")
+    out.push(b' ')?;
+    Ok(out.push(b'.')?)
 }
 
 /// Appends a triple as it is written in canonical form: one space between its terms and before the dot, and no end of
-/// line. Where memory runs out the buffer is as before.
+/// line. Where memory runs out the buffer is as before. Room is made once, unless the object is long.
 pub fn write_triple(out: &mut Vec<u8>, triple: &Triple) -> Result<(), AllocError>
     ensures ok { OnOk result (out.new.items ≡ out.old.items ++ triple_text triple.now) }
     ensures err { OnErr result (out.new.items ≡ out.old.items) }
 {
+    // Room for all of it, where the object has less than some 50 bytes.
+    let (s, p) = (triple.s.as_str().len(), triple.p.as_str().len());
+    out.reserve(s.saturating_add(p).saturating_add(64))?;
     let start = out.len();
     let written = append_triple(out, triple);
     if written.is_err() {

@@ -1,5 +1,5 @@
 -- What a reference means against a base (RFC 3986 section 5.2).
-use Rattle.std.specs.Prelude.{ℕ, List, [], ◌∷◌, ◌++◌, Bool, true, false, ◌&&◌, if◌then◌else◌}
+use Rattle.std.specs.Prelude.{ℕ, List, [], ◌∷◌, ◌++◌, Bool, true, false, ◌&&◌, if◌then◌else◌, codes}
 use Rattle.std.specs.List.{list_any}
 use Rattle.std.specs.Option.{is_some, option_or}
 use Rattle.text_rules.specs.References.{Parts, slash, is_slash, split, recomposed}
@@ -39,3 +39,7 @@ transformed base reference =
 -- the text that a reference stands for
 abbrev pub resolved : List ℕ → List ℕ → List ℕ
 resolved base reference = recomposed (transformed (split base) (split reference))
+
+-- the folder of a base: what `.` stands for against it (RFC 3986 section 5.4.1)
+abbrev pub folder_of : List ℕ → List ℕ
+folder_of base = resolved base (codes ".")

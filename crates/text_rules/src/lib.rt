@@ -26,7 +26,7 @@ pub use forms::{
 };
 pub use integers::{is_plain_integer, plain_integer_value};
 pub use places::{byte_at, has_byte};
-pub use resolution::resolve;
+pub use resolution::{folder_of, resolve};
 pub use spots::Spot;
 pub use tags::{is_language_tag, lower_tag};
 pub use texts::Text;

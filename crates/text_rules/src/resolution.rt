@@ -3,7 +3,7 @@ ghost use Rattle.std.specs.Prelude.{◌≡◌, IfOk, IfErr, IsTrue, not};
 ghost use Rattle.std.specs.String.{string_bytes};
 ghost use Rattle.text_rules.specs.Iri.{is_absolute};
 ghost use Rattle.text_rules.specs.References.{split};
-ghost use Rattle.text_rules.specs.Resolution.{is_rooted, directory, merged, transformed, resolved};
+ghost use Rattle.text_rules.specs.Resolution.{is_rooted, directory, merged, transformed, resolved, folder_of};
 ghost use Rattle.text_rules.specs.Values.{parts_value};
 ghost use Rattle.text_rules.specs.declared.faults.IriFault.TheVariants as iri_faults;
 
@@ -119,4 +119,11 @@ pub fn resolve(alloc: Global, base: &str, reference: &str) -> Result<Text, IriFa
         return Err(IriFault::NotIri);
     }
     Ok(Text::from_string(text)?)
+}
+
+/// The folder of a base: the text that `.` stands for against it. A plain text stands for the folder with that text behind it.
+pub fn folder_of(alloc: Global, base: &str) -> Result<Text, AllocError>
+    ensures { IfOk result (λ folder. folder ≡ folder_of base.now) }
+{
+    Text::from_string(target_text(alloc, base, ".")?)
 }
