@@ -1,6 +1,6 @@
 pub use Rattle.chunked_list.proofs as of_chunked_list
 pub mod BucketLooks
-pub mod Hashes
+pub mod TermTexts
 pub mod Lookups
 pub mod Numbers
 pub mod PathLookups

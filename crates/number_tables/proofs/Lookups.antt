@@ -16,14 +16,13 @@ use Rattle.number_tables.specs.TableNumbers.{with_new_value}
 use Rattle.tree_clock.specs.Lists.{Has, IsAscending}
 use Rattle.chunked_list.proofs.of_hinted_chunks.of_mld_ops.AscendingLaws.{below_member, below_from_members}
 use Rattle.chunked_list.specs.Parted.{IsParted, IsFirstOf}
-use Rattle.number_tables.specs.declared.buckets.TaggedNumber.{TaggedNumber}
 use Rattle.number_tables.specs.declared.hashed.HashedNumber.{HashedNumber}
-use Rattle.number_tables.specs.HashBuckets.{HasTagged, IsVacancy, AreStanding}
-use Rattle.number_tables.specs.HashedTerms.{term_hash, hash_cmp, hashed_term_text, term_text_at, sought_cmp, hashed_cmp, is_before_sought, IsHashed}
+use Rattle.number_tables.specs.HashBuckets.{HasSlot, IsVacancy, AreStanding}
+use Rattle.number_tables.specs.HashedTerms.{term_hash, hashed_term_text, term_text_at, sought_cmp, hashed_cmp, is_before_sought, IsHashed}
 use Rattle.number_tables.specs.HashedLaws.{cmp_by_key, keyed_total}
 use Rattle.number_tables.specs.TableNumbers.{number_of_term}
 use Rattle.number_tables.specs.TermFinding.{FindsTerm}
-use Rattle.number_tables.proofs.Hashes.{below_term, terms_by_text}
+use Rattle.number_tables.proofs.TermTexts.{below_term, terms_by_text}
 use Rattle.number_tables.proofs.Numbers.{placed_term, term_decides, told_equal}
 use Rattle.number_tables.proofs.Seeking.{absent_any, first_has, found_any, get_old, none_by, one_inside, sought_divides}
 
@@ -70,12 +69,12 @@ module _ (terms : List Term) (places : List HashedNumber) (hash : ℕ) (term : T
       first_has cmp_by_key keyed_total (key_at terms) (λ (place : HashedNumber). place.number) (hash, term_text term) places first
       (record { hash = hash; number = number }) ascending f h alike
       in
-      let same = equal_parts (hash_cmp has.0.hash hash) (slice_cmp nat_cmp (term_text_at terms has.0.number) (term_text term)) has.2 in
+      let same = equal_parts (nat_cmp has.0.hash hash) (slice_cmp nat_cmp (term_text_at terms has.0.number) (term_text term)) has.2 in
       other has.0 has.1 (text_found (slice_get terms has.0.number) term same)
     where
       alike : sought_cmp terms (record { hash = hash; number = number }) hash (term_text term) ≡ Equal
       alike =
-          ap (λ o. ordering_then (hash_cmp hash hash) (slice_cmp nat_cmp (hashed_term_text o) (term_text term))) g
+          ap (λ o. ordering_then (nat_cmp hash hash) (slice_cmp nat_cmp (hashed_term_text o) (term_text term))) g
           ∙ tied_itself keyed_total (hash, term_text term)
 
   pub absent_behind : IsFirstOf (is_before_sought terms hash (term_text term)) places None
@@ -94,13 +93,13 @@ module _ (terms : List Term) (places : List HashedNumber) (hash : ℕ) (term : T
 
 -- ---- what a look-up says of the term's number
 
-module _ (terms : List Term) (slots : List TaggedNumber) (places : List HashedNumber) (hash : ℕ) (term : Term) (apart : IsDistinct (eq_by_cmp term_cmp) terms) (is : AreStanding terms (length terms) slots places) (e : hash ≡ term_hash term)
+module _ (terms : List Term) (slots : List HashedNumber) (places : List HashedNumber) (hash : ℕ) (term : Term) (apart : IsDistinct (eq_by_cmp term_cmp) terms) (is : AreStanding terms (length terms) slots places) (e : hash ≡ term_hash term)
   where
     pub number_found : (number : ℕ) → slice_get terms number ≡ Some term → Some number ≡ number_of_term terms term
     number_found number h = sym (placed_term terms number term term apart h ((term_decides term term).1 refl))
 
     -- it has none, where none that stands in its bucket or in order is the term's
-    pub number_absent : ((number : ℕ) → HasTagged slots hash number → ¬ (slice_get terms number ≡ Some term))
+    pub number_absent : ((number : ℕ) → HasSlot slots hash number → ¬ (slice_get terms number ≡ Some term))
         → ((number : ℕ) → Has places (record { hash = hash; number = number }) → ¬ (slice_get terms number ≡ Some term)) → None ≡ number_of_term terms term
     number_absent in_bucket in_order = none_by (number_of_term terms term) (λ number h. refuted number h)
       where
@@ -110,16 +109,16 @@ module _ (terms : List Term) (slots : List TaggedNumber) (places : List HashedNu
             let same : term ≡ get_or terms number term = (term_decides term (get_or terms number term)).0 at.1 in
             let own : slice_get terms number ≡ Some term = slice_get-get_or terms number term at.0 ∙ ap (λ t. Some t) (sym same) in
             elim (is.stands number term at.0 own) [
-              | inl k ↦ in_bucket number (subst (λ (h : ℕ). HasTagged slots h number) (sym e) k) own
+              | inl k ↦ in_bucket number (subst (λ (h : ℕ). HasSlot slots h number) (sym e) k) own
               | inr k ↦ in_order number (subst (λ (h : ℕ). Has places (record { hash = h; number = number })) (sym e) k) own
             ]
 
     -- where its bucket has room, none stands in order
-    pub number_absent_open : ((number : ℕ) → HasTagged slots hash number → ¬ (slice_get terms number ≡ Some term)) → (place : ℕ) × IsVacancy slots hash place
+    pub number_absent_open : ((number : ℕ) → HasSlot slots hash number → ¬ (slice_get terms number ≡ Some term)) → (place : ℕ) × IsVacancy slots hash place
         → None ≡ number_of_term terms term
     number_absent_open in_bucket room = number_absent in_bucket (λ number h own. is.full (record { hash = hash; number = number }) h room.0 room.1)
 
-    pub number_in_order : ((number : ℕ) → HasTagged slots hash number → ¬ (slice_get terms number ≡ Some term)) → (result : Option ℕ)
+    pub number_in_order : ((number : ℕ) → HasSlot slots hash number → ¬ (slice_get terms number ≡ Some term)) → (result : Option ℕ)
         → FindsTerm terms term (λ number. Has places (record { hash = hash; number = number })) result → result ≡ number_of_term terms term
     number_in_order in_bucket None h = number_absent in_bucket h
     number_in_order in_bucket (Some number) h = number_found number h
@@ -133,8 +132,8 @@ module _ (terms : List Term) (term : Term) where
 
   order_kept : (a b : HashedNumber) → IsHashed terms a → IsHashed terms b → hashed_cmp terms a b ≡ hashed_cmp (terms ++ term ∷ []) a b
   order_kept a b h k =
-      ap (λ t. ordering_then (ordering_then (hash_cmp a.hash b.hash) (slice_cmp nat_cmp t (term_text_at terms b.number))) (nat_cmp a.number b.number)) (text_kept a h)
-      ∙ ap (λ t. ordering_then (ordering_then (hash_cmp a.hash b.hash) (slice_cmp nat_cmp (term_text_at (terms ++ term ∷ []) a.number) t)) (nat_cmp a.number b.number)) (text_kept b k)
+      ap (λ t. ordering_then (ordering_then (nat_cmp a.hash b.hash) (slice_cmp nat_cmp t (term_text_at terms b.number))) (nat_cmp a.number b.number)) (text_kept a h)
+      ∙ ap (λ t. ordering_then (ordering_then (nat_cmp a.hash b.hash) (slice_cmp nat_cmp (term_text_at (terms ++ term ∷ []) a.number) t)) (nat_cmp a.number b.number)) (text_kept b k)
 
   -- so hashed numbers ascend among one term more
   pub ascend_more : (places : List HashedNumber) → ((place : HashedNumber) → Has places place → IsHashed terms place) → IsAscending (hashed_cmp terms) places

@@ -11,9 +11,8 @@ use Rattle.rdf_terms.specs.declared.terms.Term.{Term}
 use Rattle.rdf_terms.specs.Order.{term_cmp}
 use Rattle.rdf_terms.specs.OrderLaws.{term_total}
 use Rattle.tree_clock.specs.Lists.{Has, IsAscending}
-use Rattle.number_tables.specs.declared.buckets.TaggedNumber.{TaggedNumber}
 use Rattle.number_tables.specs.declared.hashed.HashedNumber.{HashedNumber}
-use Rattle.number_tables.specs.HashBuckets.{bucket_of, hash_tag, AreStanding, HasTagged, IsFull, IsTermTable, IsVacancy}
+use Rattle.number_tables.specs.HashBuckets.{bucket_of, AreStanding, HasSlot, IsFull, IsTermTable, IsVacancy}
 use Rattle.number_tables.specs.HashedTerms.{hashed_cmp, term_hash, IsHashed}
 use Rattle.number_tables.specs.TableNumbers.{number_of_term}
 use Rattle.number_tables.proofs.Lookups.{ascend_more}
@@ -40,13 +39,13 @@ module _ {X : Type 0} (xs : List X) (i : ℕ) (v : X) where
 
 -- ---- the next number is put where it belongs
 
-pub none_standing : (terms : List Term) (slots : List TaggedNumber) (places : List HashedNumber) → places ≡ [] → AreStanding terms 0 slots places
+pub none_standing : (terms : List Term) (slots : List HashedNumber) (places : List HashedNumber) → places ≡ [] → AreStanding terms 0 slots places
 none_standing terms slots places e = subst (λ (ps : List HashedNumber). AreStanding terms 0 slots ps) (sym e) none
   where
     none : AreStanding terms 0 slots []
     none = record { stands = λ number term l h. absurd (omega (arith, l)); hashed = λ place h. absurd h; ascending = tt; full = λ place h. absurd h }
 
-module _ (terms : List Term) (count : ℕ) (slots : List TaggedNumber) (places : List HashedNumber) (hash : ℕ) (term : Term) (is : AreStanding terms count slots places)
+module _ (terms : List Term) (count : ℕ) (slots : List HashedNumber) (places : List HashedNumber) (hash : ℕ) (term : Term) (is : AreStanding terms count slots places)
     (own : slice_get terms count ≡ Some term) (e : hash ≡ term_hash term) where
   -- the hash of whichever term has the next number
   next_hash : (other : Term) (number : ℕ) → number ≡ count → slice_get terms number ≡ Some other → term_hash other ≡ hash
@@ -59,25 +58,25 @@ module _ (terms : List Term) (count : ℕ) (slots : List TaggedNumber) (places :
   ]
 
   module _ (place : ℕ) (few : count < 4294967295) (room : IsVacancy slots hash place) where
-    abbrev put : TaggedNumber
-    put = record { number = count; tag = hash_tag hash }
+    abbrev put : HashedNumber
+    put = record { hash = hash; number = count }
 
     slots_same : length (set slots place put) ≡ length slots
     slots_same = length-set slots place put
 
-    tagged_kept : (other number : ℕ) → number < count → HasTagged slots other number → HasTagged (set slots place put) other number
-    tagged_kept other number l h = (
+    slot_kept : (other number : ℕ) → number < count → HasSlot slots other number → HasSlot (set slots place put) other number
+    slot_kept other number l h = (
       h.0,
       record {
         bucket = h.1.bucket ∙ ap (λ n. bucket_of n other) (sym slots_same);
-        found = get_unwritten slots place put h.0 (record { number = number; tag = hash_tag other }) away h.1.found;
+        found = get_unwritten slots place put h.0 (record { hash = other; number = number }) away h.1.found;
       },
     )
       where
         away : ¬ (h.0 ≡ place)
         away f =
-            let same = one_inside (record { number = number; tag = hash_tag other }) room.0 (sym h.1.found ∙ ap (λ n. slice_get slots n) f ∙ room.1.found) in
-            let vacant : number ≡ 4294967295 = ap (λ (slot : TaggedNumber). slot.number) same ∙ room.2 in
+            let same = one_inside (record { hash = other; number = number }) room.0 (sym h.1.found ∙ ap (λ n. slice_get slots n) f ∙ room.1.found) in
+            let vacant : number ≡ 4294967295 = ap (λ (slot : HashedNumber). slot.number) same ∙ room.2 in
             omega (arith, vacant, l, few)
 
     full_kept : (other : ℕ) → IsFull slots other → IsFull (set slots place put) other
@@ -93,11 +92,11 @@ module _ (terms : List Term) (count : ℕ) (slots : List TaggedNumber) (places :
         written : at ≡ place → ⊥
         written f =
             let same = one_inside put vacancy.0 (sym (get_written slots place put (slice_get_within slots place room.0 room.1.found)) ∙ ap (λ n. slice_get (set slots place put) n) (sym f) ∙ vacancy.1.found) in
-            let vacant : count ≡ 4294967295 = ap (λ (slot : TaggedNumber). slot.number) same ∙ vacancy.2 in
+            let vacant : count ≡ 4294967295 = ap (λ (slot : HashedNumber). slot.number) same ∙ vacancy.2 in
             omega (arith, vacant, few)
 
-    put_tagged : HasTagged (set slots place put) hash count
-    put_tagged = (
+    put_standing : HasSlot (set slots place put) hash count
+    put_standing = (
       place,
       record {
         bucket = room.1.bucket ∙ ap (λ n. bucket_of n hash) (sym slots_same);
@@ -115,14 +114,14 @@ module _ (terms : List Term) (count : ℕ) (slots : List TaggedNumber) (places :
     }
       where
         stands : (number : ℕ) (other : Term) → number < count + 1 → slice_get terms number ≡ Some other
-            → HasTagged (set slots place put) (term_hash other) number ⊎ Has places (record { hash = term_hash other; number = number })
+            → HasSlot (set slots place put) (term_hash other) number ⊎ Has places (record { hash = term_hash other; number = number })
         stands number other l h = elim (next_or_before number l) [
           | inl k ↦ elim (is.stands number other k h) [
-            | inl t ↦ inl (tagged_kept (term_hash other) number k t)
+            | inl t ↦ inl (slot_kept (term_hash other) number k t)
             | inr t ↦ inr t
           ]
-          | inr f ↦ inl (subst (λ (n : ℕ). HasTagged (set slots place put) (term_hash other) n) (sym f)
-              (subst (λ (g : ℕ). HasTagged (set slots place put) g count) (sym (next_hash other number f h)) put_tagged))
+          | inr f ↦ inl (subst (λ (n : ℕ). HasSlot (set slots place put) (term_hash other) n) (sym f)
+              (subst (λ (g : ℕ). HasSlot (set slots place put) g count) (sym (next_hash other number f h)) put_standing))
         ]
 
   -- or in order, where that is full
@@ -142,7 +141,7 @@ module _ (terms : List Term) (count : ℕ) (slots : List TaggedNumber) (places :
   }
     where
       stands : (number : ℕ) (other : Term) → number < count + 1 → slice_get terms number ≡ Some other
-          → HasTagged slots (term_hash other) number ⊎ Has more (record { hash = term_hash other; number = number })
+          → HasSlot slots (term_hash other) number ⊎ Has more (record { hash = term_hash other; number = number })
       stands number other l h = elim (next_or_before number l) [
         | inl k ↦ elim (is.stands number other k h) [
           | inl t ↦ inl t
@@ -153,7 +152,7 @@ module _ (terms : List Term) (count : ℕ) (slots : List TaggedNumber) (places :
 
 -- ---- a term more
 
-pub standing_more : (terms : List Term) (term : Term) (slots : List TaggedNumber) (places : List HashedNumber) → AreStanding terms (length terms) slots places
+pub standing_more : (terms : List Term) (term : Term) (slots : List HashedNumber) (places : List HashedNumber) → AreStanding terms (length terms) slots places
     → AreStanding (terms ++ term ∷ []) (length terms) slots places
 standing_more terms term slots places is = record {
   stands = λ number other l h. elim (get_new terms term other number h) [
@@ -166,7 +165,7 @@ standing_more terms term slots places is = record {
 }
 
 -- no terms
-pub empty_table : (terms : List Term) (hashes : List ℕ) (slots : List TaggedNumber) (places : List HashedNumber) → terms ≡ [] → hashes ≡ [] → places ≡ []
+pub empty_table : (terms : List Term) (hashes : List ℕ) (slots : List HashedNumber) (places : List HashedNumber) → terms ≡ [] → hashes ≡ [] → places ≡ []
     → IsTermTable terms hashes slots places
 unfolding IsDistinct
 empty_table terms hashes slots places e h f = subst (λ (ts : List Term). IsTermTable ts hashes slots places) (sym e) none
@@ -189,11 +188,11 @@ map_push [] term = refl
 map_push (first ∷ terms) term = ap (λ l. term_hash first ∷ l) (map_push terms term)
 
 -- a term that is pushed, where the lists are told by what they are equal to
-module _ (terms pushed : List Term) (term : Term) (slots : List TaggedNumber) (places : List HashedNumber) (pushed_is : pushed ≡ terms ++ term ∷ []) where
-  pub standing_pushed : (ready : List TaggedNumber) (prepared : List HashedNumber) → ready ≡ slots → prepared ≡ places → AreStanding terms (length terms) slots places
+module _ (terms pushed : List Term) (term : Term) (slots : List HashedNumber) (places : List HashedNumber) (pushed_is : pushed ≡ terms ++ term ∷ []) where
+  pub standing_pushed : (ready : List HashedNumber) (prepared : List HashedNumber) → ready ≡ slots → prepared ≡ places → AreStanding terms (length terms) slots places
       → AreStanding pushed (length terms) ready prepared
   standing_pushed ready prepared f e is =
-      subst (λ (ss : List TaggedNumber). AreStanding pushed (length terms) ss prepared) (sym f)
+      subst (λ (ss : List HashedNumber). AreStanding pushed (length terms) ss prepared) (sym f)
       (subst (λ (ps : List HashedNumber). AreStanding pushed (length terms) slots ps) (sym e)
       (subst (λ (ts : List Term). AreStanding ts (length terms) slots places) (sym pushed_is) (standing_more terms term slots places is)))
 

@@ -5,7 +5,6 @@ use Rattle.std.specs.Ordering.{eq_by_cmp}
 use Rattle.rdf_terms.specs.declared.terms.Term.{Term}
 use Rattle.rdf_terms.specs.Order.{term_cmp}
 use Rattle.tree_clock.specs.Lists.{Has, IsAscending}
-use Rattle.number_tables.specs.declared.buckets.TaggedNumber.{TaggedNumber}
 use Rattle.number_tables.specs.declared.hashed.HashedNumber.{HashedNumber}
 use Rattle.number_tables.specs.HashedTerms.{hashed_cmp, term_hash, IsHashed}
 
@@ -17,38 +16,34 @@ vacant_number = 4294967295
 abbrev pub bucket_of : ℕ → ℕ → ℕ
 bucket_of slots hash = bit_and hash (slots / 8 - 1)
 
--- the tag of a hash: its upper half
-abbrev pub hash_tag : ℕ → ℕ
-hash_tag hash = hash / 2 ^ 32
-
 -- the slot is at a place in the bucket of a hash
-pub record IsSlotAt (slots : List TaggedNumber) (hash place : ℕ) (slot : TaggedNumber) : Type 0 where
+pub record IsSlotAt (slots : List HashedNumber) (hash place : ℕ) (slot : HashedNumber) : Type 0 where
   pub bucket : place / 8 ≡ bucket_of (length slots) hash
   pub found : slice_get slots place ≡ Some slot
 
--- a number stands in the bucket of a hash, with the hash's tag
-abbrev pub HasTagged : List TaggedNumber → ℕ → ℕ → Type 0
-HasTagged slots hash number = (place : ℕ) × IsSlotAt slots hash place (record { number = number; tag = hash_tag hash })
+-- a number stands in the bucket of a hash, with that hash
+abbrev pub HasSlot : List HashedNumber → ℕ → ℕ → Type 0
+HasSlot slots hash number = (place : ℕ) × IsSlotAt slots hash place (record { hash = hash; number = number })
 
 -- a place in the bucket of a hash where no number stands
-abbrev pub IsVacancy : List TaggedNumber → ℕ → ℕ → Type 0
-IsVacancy slots hash place = (slot : TaggedNumber) × IsSlotAt slots hash place slot × (slot.number ≡ vacant_number)
+abbrev pub IsVacancy : List HashedNumber → ℕ → ℕ → Type 0
+IsVacancy slots hash place = (slot : HashedNumber) × IsSlotAt slots hash place slot × (slot.number ≡ vacant_number)
 
 -- the bucket of a hash has no such place
-abbrev pub IsFull : List TaggedNumber → ℕ → Type 0
+abbrev pub IsFull : List HashedNumber → ℕ → Type 0
 IsFull slots hash = (place : ℕ) → ¬ IsVacancy slots hash place
 
 -- the numbers of the first so many terms stand in the buckets of their hashes or in order; what stands in order stands with its own
 -- hash, and only where the bucket of that is full
-pub record AreStanding (terms : List Term) (count : ℕ) (slots : List TaggedNumber) (places : List HashedNumber) : Type 0 where
+pub record AreStanding (terms : List Term) (count : ℕ) (slots : List HashedNumber) (places : List HashedNumber) : Type 0 where
   pub stands : (number : ℕ) (term : Term) → number < count → slice_get terms number ≡ Some term
-      → HasTagged slots (term_hash term) number ⊎ Has places (record { hash = term_hash term; number = number })
+      → HasSlot slots (term_hash term) number ⊎ Has places (record { hash = term_hash term; number = number })
   pub hashed : (place : HashedNumber) → Has places place → IsHashed terms place
   pub ascending : IsAscending (hashed_cmp terms) places
   pub full : (place : HashedNumber) → Has places place → IsFull slots place.hash
 
 -- what a table of terms keeps: no term stands twice, the numbers of all can be found, and the hashes of all are at hand
-pub record IsTermTable (terms : List Term) (hashes : List ℕ) (slots : List TaggedNumber) (places : List HashedNumber) : Type 0 where
+pub record IsTermTable (terms : List Term) (hashes : List ℕ) (slots : List HashedNumber) (places : List HashedNumber) : Type 0 where
   pub apart : IsDistinct (eq_by_cmp term_cmp) terms
   pub few : length terms < 2 ^ 32
   pub all_hashed : hashes ≡ map term_hash terms

@@ -1,11 +1,12 @@
 -- Terms by their hashes. The private table of terms cites it: how its numbers are ordered, where a term is looked for, and what the
 -- table keeps.
-use Rattle.std.specs.Prelude.{◌≡◌, ℕ, zero, suc, ◌*◌, ◌/◌, ◌%◌, ◌^◌, List, [], ◌∷◌, Option, None, Some, Bool, fold}
+use Rattle.std.specs.Prelude.{◌≡◌, ℕ, ◌/◌, ◌^◌, List, [], Option, None, Some, Bool, fold}
 use Rattle.std.specs.Cmp.Lexicographic.{slice_cmp}
 use Rattle.std.specs.Hash.FoldHasher as folding
 use Rattle.std.specs.List.{slice_get}
 use Rattle.std.specs.Ordering.{nat_cmp, ordering_then, is_lt}
 use Rattle.std.specs.declared.cmp.Ordering.{Ordering}
+use Rattle.chunked_list.specs.NumberTexts.{numbers_text}
 use Rattle.rdf_terms.specs.declared.terms.Term.{Term}
 use Rattle.rdf_terms.specs.declared.terms.Term.TheVariants as terms
 use Rattle.rdf_terms.specs.Hashed.{term_fed}
@@ -14,26 +15,17 @@ use Rattle.number_tables.specs.declared.hashed.HashedNumber.{HashedNumber}
 use Rattle.number_tables.specs.declared.hashed.Wanted.{Wanted}
 use Rattle.number_tables.specs.declared.hashed.Wanted.TheVariants as wanted
 
--- what a hasher of a fixed seed makes of what is fed to it
+-- what a hasher of a fixed seed makes of what is fed to it: the upper half of its 64 bits
 unfoldable pub hash_fed : List (List ℕ) → ℕ
-hash_fed writes = folding.finish (fold folding.write folding.initial writes)
+hash_fed writes = folding.finish (fold folding.write folding.initial writes) / 2 ^ 32
 
 -- the hash of a term
 unfoldable pub term_hash : Term → ℕ
 term_hash term = hash_fed (term_fed term)
 
--- the lowest bytes of a hash, so many, the highest of them first
-abbrev pub low_bytes : ℕ → ℕ → List ℕ
-low_bytes zero hash = []
-low_bytes (suc n) hash = hash / 2 ^ (8 * n) % 256 ∷ low_bytes n hash
-
--- the text of a hash: its eight bytes
-unfoldable pub hash_text : ℕ → List ℕ
-hash_text hash = low_bytes 8 hash
-
--- hashes by their texts; those are all of a number below 2 ^ 64, and numbers from there on are told apart by themselves
-abbrev pub hash_cmp : ℕ → ℕ → Ordering
-hash_cmp a b = ordering_then (slice_cmp nat_cmp (hash_text a) (hash_text b)) (nat_cmp a b)
+-- the text of a hash: that of the hash and 0, since texts of numbers have two
+abbrev pub hash_text : ℕ → List ℕ
+hash_text hash = numbers_text hash 0
 
 -- the text of a term that may be there; none is the least of all
 abbrev pub hashed_term_text : Option Term → List ℕ
@@ -46,7 +38,7 @@ term_text_at terms number = hashed_term_text (slice_get terms number)
 
 -- a number with its hash against a hash and a text: by the hashes first, and then by the texts
 abbrev pub sought_cmp : List Term → HashedNumber → ℕ → List ℕ → Ordering
-sought_cmp terms a hash text = ordering_then (hash_cmp a.hash hash) (slice_cmp nat_cmp (term_text_at terms a.number) text)
+sought_cmp terms a hash text = ordering_then (nat_cmp a.hash hash) (slice_cmp nat_cmp (term_text_at terms a.number) text)
 
 -- two numbers: by their hashes, then by the texts of their terms, and then by themselves
 abbrev pub hashed_cmp : List Term → HashedNumber → HashedNumber → Ordering

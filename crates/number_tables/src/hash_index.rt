@@ -10,7 +10,7 @@ ghost use Rattle.number_tables.specs.HashedTerms.{hashed_cmp, term_hash, wanted_
 ghost use Rattle.number_tables.specs.TableNumbers.{number_of_term};
 ghost use Rattle.number_tables.specs.TermFinding.{FindsTerm};
 
-use crate::buckets::{TaggedNumber, find_in_bucket, is_open, tag_of, vacancy, vacant_slot};
+use crate::buckets::{find_in_bucket, is_open, vacancy, vacant_slot};
 use crate::hashed::{HashedNumber, Wanted};
 use crate::sought::{ByHash, Sought};
 use chunked_list::Chunked;
@@ -26,12 +26,12 @@ const FIRST_SLOTS: usize = 8;
 /// Where numbers stand: in the bucket of the term's hash, or, where that has no room, in order of the hashes.
 #[derive(Drop)]
 pub(crate) struct HashIndex {
-    pub(crate) slots: Vec<TaggedNumber>,
+    pub(crate) slots: Vec<HashedNumber>,
     pub(crate) places: Chunked<HashedNumber>,
 }
 
 /// The number of a term, where it has one.
-pub(crate) fn find(terms: &[Term], index: &HashIndex, hash: u64, wanted: &Wanted<'_>) -> Option<u32>
+pub(crate) fn find(terms: &[Term], index: &HashIndex, hash: u32, wanted: &Wanted<'_>) -> Option<u32>
     requires apart { IsDistinct (eq_by_cmp term_cmp) terms.now }
     requires is { AreStanding terms.now (length terms.now) index.now.slots.items index.now.places.elements }
     requires hash { hash ≡ term_hash (wanted_term wanted.now) }
@@ -50,7 +50,7 @@ pub(crate) fn find(terms: &[Term], index: &HashIndex, hash: u64, wanted: &Wanted
 fn find_in_order(
     terms: &[Term],
     places: &Chunked<HashedNumber>,
-    hash: u64,
+    hash: u32,
     wanted: &Wanted<'_>,
 ) -> Option<u32>
     requires { IsAscending (hashed_cmp terms.now) places.now.elements }
@@ -69,7 +69,7 @@ fn find_in_order(
 }
 
 /// Makes room for a number of a hash.
-pub(crate) fn make_place(alloc: Global, index: &mut HashIndex, hash: u64) -> Result<(), AllocError>
+pub(crate) fn make_place(alloc: Global, index: &mut HashIndex, hash: u32) -> Result<(), AllocError>
     ensures slots { index.new.slots.items ≡ index.old.slots.items }
     ensures places { index.new.places.elements ≡ index.old.places.elements }
     ensures room { OnOk result (IsFull index.new.slots.items hash → 0 < index.new.places.room) }
@@ -81,7 +81,7 @@ pub(crate) fn make_place(alloc: Global, index: &mut HashIndex, hash: u64) -> Res
 }
 
 /// Puts the next number where it belongs.
-pub(crate) fn put(index: &mut HashIndex, terms: &[Term], hash: u64, number: u32)
+pub(crate) fn put(index: &mut HashIndex, terms: &[Term], hash: u32, number: u32)
     requires is { AreStanding terms.now number index.old.slots.items index.old.places.elements }
     requires term { (term : Term) × (slice_get terms.now number ≡ Some term) × (hash ≡ term_hash term) }
     requires few { number < 4294967295 }
@@ -89,10 +89,7 @@ pub(crate) fn put(index: &mut HashIndex, terms: &[Term], hash: u64, number: u32)
     ensures { AreStanding terms.now (number + 1) index.new.slots.items index.new.places.elements }
 {
     match vacancy(&index.slots, hash) {
-        Some(place) => {
-            let tag = tag_of(hash);
-            index.slots[place] = TaggedNumber { number, tag };
-        }
+        Some(place) => index.slots[place] = HashedNumber { hash, number },
         None => index
             .places
             .insert(&ByHash { terms }, HashedNumber { hash, number }),
@@ -103,7 +100,7 @@ pub(crate) fn put(index: &mut HashIndex, terms: &[Term], hash: u64, number: u32)
 pub(crate) fn grow(
     alloc: Global,
     terms: &[Term],
-    hashes: &[u64],
+    hashes: &[u32],
     index: &mut HashIndex,
 ) -> Result<(), AllocError>
     requires few { length terms.now < 2 ^ 32 }
@@ -123,7 +120,7 @@ pub(crate) fn grow(
 fn made_anew(
     alloc: Global,
     terms: &[Term],
-    hashes: &[u64],
+    hashes: &[u32],
     slots: usize,
 ) -> Result<HashIndex, AllocError>
     requires few { length terms.now < 2 ^ 32 }

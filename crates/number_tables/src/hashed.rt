@@ -1,16 +1,15 @@
 //! Terms by their hashes.
 //!
 //! The hasher has a fixed seed, so strangers can choose terms of one hash. Those are told apart by their texts, by halves.
-ghost use Rattle.std.specs.Prelude.{◌≡◌, ◌↔◌, Some, IfOk, IsTrue, drop};
+ghost use Rattle.std.specs.Prelude.{◌≡◌, ◌↔◌, Some, IfOk, IsTrue};
 ghost use Rattle.std.specs.Cmp.Lexicographic.{slice_cmp};
 ghost use Rattle.std.specs.List.{slice_get};
 ghost use Rattle.std.specs.Ordering.{nat_cmp};
 ghost use Rattle.rdf_terms.specs.declared.terms.Term.TheVariants as terms;
 ghost use Rattle.rdf_terms.specs.Spelling.{term_text};
-ghost use Rattle.chunked_list.specs.Leading.{leading};
-ghost use Rattle.number_tables.specs.HashedTerms.{hash_fed, hash_text, term_hash, term_text_at, wanted_term};
+ghost use Rattle.number_tables.specs.HashedTerms.{hash_fed, term_hash, term_text_at, wanted_term};
 
-use chunked_list::Keyed;
+use chunked_list::{Keyed, numbers_hint};
 use rdf_terms::{Iri, Term, cmp_iris};
 use std::alloc::AllocError;
 use std::cmp::Ordering;
@@ -19,7 +18,7 @@ use std::hash::{FoldHasher, Hash, Hasher};
 /// The number of a term, with the term's hash.
 #[derive(Clone, Copy)]
 pub(crate) struct HashedNumber {
-    pub(crate) hash: u64,
+    pub(crate) hash: u32,
     pub(crate) number: u32,
 }
 
@@ -35,19 +34,8 @@ impl Keyed for HashedNumber {
     }
 
     fn hint(&self, place: usize) -> u64 {
-        hash_hint(self.hash, place)
+        numbers_hint(self.hash, 0, place)
     }
-}
-
-/// The bytes of a hash from a place on, as a number.
-#[tactic(auto, using(crate::proofs::Hashes::hint_of_hash, crate::proofs::Hashes::no_hint))]
-pub(crate) fn hash_hint(hash: u64, place: usize) -> u64
-    ensures { result ≡ leading 8 (drop place (hash_text hash)) }
-{
-    if place >= 8 {
-        return 0;
-    }
-    hash << (8 * place)
 }
 
 /// What is looked up: a term, or an IRI in place of the term that it is.
@@ -60,7 +48,7 @@ pub(crate) enum Wanted<'a> {
 impl<'a> Wanted<'a> {
     /// The hash of the term.
     #[tactic(auto, unfolding(crate::specs::HashedTerms::term_hash))]
-    pub(crate) fn hash(&self) -> u64
+    pub(crate) fn hash(&self) -> u32
         ensures { result ≡ term_hash (wanted_term self.now) }
     {
         match self {
@@ -97,7 +85,7 @@ impl<'a> Wanted<'a> {
     }
 
     // How a term compares with it.
-    #[tactic(auto, using(crate::proofs::Hashes::literal_is_less, crate::proofs::Hashes::terms_by_text), unfolding(rdf_terms::specs::Spelling::term_text))]
+    #[tactic(auto, using(crate::proofs::TermTexts::literal_is_less, crate::proofs::TermTexts::terms_by_text), unfolding(rdf_terms::specs::Spelling::term_text))]
     fn compare(&self, own: &Term) -> Ordering
         ensures { result ≡ slice_cmp nat_cmp (term_text own.now) (term_text (wanted_term self.now)) }
     {
@@ -109,7 +97,7 @@ impl<'a> Wanted<'a> {
 }
 
 // How a term compares with an IRI as a term.
-#[tactic(auto, using(crate::proofs::Hashes::literal_is_less), unfolding(rdf_terms::specs::Spelling::term_text))]
+#[tactic(auto, using(crate::proofs::TermTexts::literal_is_less), unfolding(rdf_terms::specs::Spelling::term_text))]
 fn compare_iri(own: &Term, iri: &Iri) -> Ordering
     ensures { result ≡ slice_cmp nat_cmp (term_text own.now) (term_text (terms.Iri iri.now)) }
 {
@@ -119,12 +107,12 @@ fn compare_iri(own: &Term, iri: &Iri) -> Ordering
     }
 }
 
-// The hash of a value.
+// The hash of a value: the upper half of what the hasher makes, since four bytes tell terms apart well enough.
 #[tactic(auto, unfolding(crate::specs::HashedTerms::hash_fed))]
-fn hash_of<T: Hash>(value: &T) -> u64
+fn hash_of<T: Hash>(value: &T) -> u32
     ensures { result ≡ hash_fed (T.hash_input value.now) }
 {
     let mut hasher = FoldHasher::default();
     value.hash(&mut hasher);
-    hasher.finish()
+    (hasher.finish() >> 32) as u32
 }

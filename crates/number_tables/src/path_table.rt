@@ -124,6 +124,21 @@ impl PathTable {
         }
     }
 
+    /// The paths, in the order of their numbers.
+    pub fn paths(&self) -> &[Path]
+        ensures { result.now ≡ self.now }
+    {
+        &self.paths
+    }
+
+    /// The paths alone, in the order of their numbers.
+    pub fn into_paths(self) -> Vec<Path>
+        ensures { result.items ≡ self }
+    {
+        let PathTable { paths, places: _ } = self;
+        paths
+    }
+
     /// The path that has a number, where one has.
     pub fn get(&self, number: u32) -> Option<&Path>
         ensures value { option_copied result ≡ slice_get self.now number }

@@ -2,10 +2,10 @@
 ghost use Rattle.std.specs.Prelude.{◌≡◌, []};
 ghost use Rattle.std.specs.Cmp.Lexicographic.{slice_cmp};
 ghost use Rattle.std.specs.Ordering.{nat_cmp, ordering_then};
-ghost use Rattle.number_tables.specs.HashedTerms.{hash_cmp, term_text_at};
+ghost use Rattle.number_tables.specs.HashedTerms.{term_text_at};
 
-use crate::hashed::{HashedNumber, Wanted, hash_hint};
-use chunked_list::{Bound, Order};
+use crate::hashed::{HashedNumber, Wanted};
+use chunked_list::{Bound, Order, numbers_hint};
 use rdf_terms::Term;
 use std::cmp::Ordering;
 
@@ -28,20 +28,12 @@ impl<'a> Order<HashedNumber> for ByHash<'a> {
     ghost by_key = { λ by. hashed_by_text by.terms.now };
 
     fn compare(&self, a: &HashedNumber, b: &HashedNumber) -> Ordering {
-        match compare_hashes(a.hash, b.hash) {
+        match a.hash.cmp(&b.hash) {
             Ordering::Less => Ordering::Less,
             Ordering::Greater => Ordering::Greater,
             Ordering::Equal => compare_numbers(self.terms, a.number, b.number),
         }
     }
-}
-
-// How two hashes compare.
-#[tactic(auto, using(crate::proofs::Hashes::hashes_compared))]
-fn compare_hashes(a: u64, b: u64) -> Ordering
-    ensures { result ≡ hash_cmp a b }
-{
-    a.cmp(&b)
 }
 
 // How two numbers compare by the texts of their terms, and then by themselves.
@@ -66,7 +58,7 @@ fn compare_terms(terms: &[Term], a: u32, b: u32) -> Ordering
 }
 
 // How the term of a number compares with none.
-#[tactic(auto, using(crate::proofs::Hashes::more_than_none))]
+#[tactic(auto, using(crate::proofs::TermTexts::more_than_none))]
 fn compare_with_none(terms: &[Term], number: u32) -> Ordering
     ensures { result ≡ slice_cmp nat_cmp (term_text_at terms.now number) [] }
 {
@@ -80,7 +72,7 @@ fn compare_with_none(terms: &[Term], number: u32) -> Ordering
 #[derive(Drop)]
 pub(crate) struct Sought<'a> {
     pub(crate) terms: &'a [Term],
-    pub(crate) hash: u64,
+    pub(crate) hash: u32,
     pub(crate) wanted: &'a Wanted<'a>,
 }
 
@@ -94,7 +86,7 @@ impl<'a> Bound<HashedNumber> for Sought<'a> {
     ghost key = { λ place. hash_text place.hash };
 
     fn is_before(&self, element: &HashedNumber) -> bool {
-        match compare_hashes(element.hash, self.hash) {
+        match element.hash.cmp(&self.hash) {
             Ordering::Less => true,
             Ordering::Greater => false,
             Ordering::Equal => self.wanted.compare_at(self.terms, element.number).is_lt(),
@@ -107,7 +99,7 @@ impl<'a> Bound<HashedNumber> for Sought<'a> {
     }
 
     fn hint(&self, place: usize) -> u64 {
-        hash_hint(self.hash, place)
+        numbers_hint(self.hash, 0, place)
     }
 
     ghost below = { λ place. sought_below place.terms.now place.hash (term_text (wanted_term place.wanted.now)) };

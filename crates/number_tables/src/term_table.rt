@@ -27,7 +27,7 @@ const TERMS_LIMIT: usize = 4_294_967_295;
 #[derive(Drop)]
 pub struct TermTable {
     terms: Vec<Term>,
-    hashes: Vec<u64>,
+    hashes: Vec<u32>,
     index: HashIndex,
 }
 
@@ -131,7 +131,7 @@ fn find_wanted(terms: &[Term], index: &HashIndex, wanted: &Wanted<'_>) -> Option
 // The number of what is looked up, which gets one where it has none.
 fn give_wanted(
     terms: &mut Vec<Term>,
-    hashes: &mut Vec<u64>,
+    hashes: &mut Vec<u32>,
     index: &mut HashIndex,
     wanted: &Wanted<'_>,
 ) -> Result<u32, AllocError>
@@ -151,9 +151,9 @@ fn give_wanted(
 // The number of a term that has none yet: the next one.
 fn add(
     terms: &mut Vec<Term>,
-    hashes: &mut Vec<u64>,
+    hashes: &mut Vec<u32>,
     index: &mut HashIndex,
-    hash: u64,
+    hash: u32,
     term: Term,
 ) -> Result<u32, AllocError>
     requires is { IsTermTable terms.old.items hashes.old.items index.old.slots.items index.old.places.elements }

@@ -3,4 +3,4 @@ use Rattle.number_tables.proofs.BucketLooks.{NoneFound}
 use Rattle.number_tables.proofs.buckets.find_in_bucket.Given as goal
 
 abbrev pub invariant-loop-place : goal.invariant-loop-place
-invariant-loop-place l = NoneFound l.slots l.start l.terms (wanted_term l.wanted) l.tag l.place
+invariant-loop-place l = NoneFound l.slots l.start l.terms (wanted_term l.wanted) l.hash l.place

@@ -6,7 +6,7 @@ loop-place-init c = none_vacant_yet c.args.slots.now c.bucket_start-start.result
 
 pub loop-place-preserved : goal.loop-place-preserved
 loop-place-preserved c =
-    none_vacant_more c.args.slots.now c.bucket_start-start.result c.loop-place.place (record { number = 0; tag = 0 }) c.loop-place.invariant c.if-slots-place.false
+    none_vacant_more c.args.slots.now c.bucket_start-start.result c.loop-place.place (record { hash = 0; number = 0 }) c.loop-place.invariant c.if-slots-place.false
 
 pub returns-clause-none : goal.returns-clause-none
 returns-clause-none c =

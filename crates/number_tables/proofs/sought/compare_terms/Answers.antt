@@ -1,5 +1,5 @@
 use Rattle.number_tables.specs.HashedTerms.{term_text_at}
-use Rattle.number_tables.proofs.Hashes.{compared_within, compared_past}
+use Rattle.number_tables.proofs.TermTexts.{compared_within, compared_past}
 use Rattle.number_tables.proofs.sought.compare_terms.Goals as goal
 
 pub returns-in-Some : goal.returns-in-Some

@@ -1,4 +1,4 @@
-use Rattle.number_tables.proofs.Hashes.{more_than_none, same_as_none}
+use Rattle.number_tables.proofs.TermTexts.{more_than_none, same_as_none}
 use Rattle.number_tables.proofs.sought.compare_with_none.Goals as goal
 
 pub returns-in-Some : goal.returns-in-Some

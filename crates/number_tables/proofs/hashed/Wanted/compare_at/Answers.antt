@@ -1,5 +1,5 @@
 use Rattle.number_tables.specs.HashedTerms.{wanted_term}
-use Rattle.number_tables.proofs.Hashes.{past_is_less}
+use Rattle.number_tables.proofs.TermTexts.{past_is_less}
 use Rattle.number_tables.proofs.hashed.Wanted.compare_at.Goals as goal
 
 pub returns-in-None : goal.returns-in-None
