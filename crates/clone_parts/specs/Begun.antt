@@ -9,5 +9,5 @@ use Rattle.mld_ops.specs.Messages.{snapshot_value}
 pub record AreBegunWith (snapshot : Snapshot) (parts : Snapshot × ClockValue × GraphValue) : Type 0 where
   pub base : snapshot_value parts.0 ≡ snapshot_value snapshot
   pub clock : parts.1.ticks ≡ parts.0.clock.ticks
-  pub pairs : parts.2.pairs ≡ parts.0.tagged.items
+  pub pairs : parts.2.pairs ≡ parts.0.tagged
   pub is_clock : IsClock parts.0.clock.ticks

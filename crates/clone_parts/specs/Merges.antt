@@ -24,6 +24,6 @@ pub record IsReleasedFrom (ticks : List (List ℕ × ℕ)) (pairs : List Tagged)
 -- the base is what both sides know and have, and then it releases of those held back
 pub record IsMergeOf (ticks : List (List ℕ × ℕ)) (pairs : List Tagged) (held : List EntryValue) (snapshot : SnapshotValue) (merge : Merge) : Type 0 where
   pub clock : IsClock merge.base.ticks
-  pub joined : IsJoinedWith ticks pairs snapshot merge.base.ticks merge.base_pairs.items
-  pub base_covered : CoversAll merge.base.ticks merge.base_pairs.items
-  pub released : IsReleasedFrom merge.base.ticks merge.base_pairs.items held merge.after
+  pub joined : IsJoinedWith ticks pairs snapshot merge.base.ticks merge.base_pairs
+  pub base_covered : CoversAll merge.base.ticks merge.base_pairs
+  pub released : IsReleasedFrom merge.base.ticks merge.base_pairs held merge.after

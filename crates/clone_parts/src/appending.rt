@@ -17,7 +17,7 @@ ghost use Rattle.clone_parts.specs.KeptSteps.{Appended, Forked, LeavesSteps, Lea
 use journal_store::{Blank, Head, Journal, MakeFault, Why};
 use mld_io::Banks;
 use mld_ops::Entry;
-use op_codec::{is_short_clock, is_short_entry, is_short_list};
+use op_codec::{is_short_clock, is_short_entry, is_short_pairs};
 use std::alloc::Global;
 
 /// Appends entries in order, each in four calls of the device, to an open journal behind whose entries they may stand.
@@ -172,5 +172,5 @@ pub(crate) fn is_short_head(head: &Head) -> bool
 {
     u32::try_from(head.props.len()).is_ok()
         && is_short_clock(&head.base)
-        && is_short_list(head.tagged.as_slice())
+        && is_short_pairs(&head.tagged)
 }

@@ -4,7 +4,7 @@ ghost use Rattle.clone_parts.specs.Begun.{AreBegunWith};
 ghost use Rattle.mld_ops.specs.Messages.{snapshot_value, IsGoodSnapshot};
 
 use graph_index::Graph;
-use mld_ops::{Snapshot, copy_pairs};
+use mld_ops::Snapshot;
 use std::alloc::{AllocError, Global};
 use tree_clock::Clock;
 
@@ -18,7 +18,6 @@ pub fn begun_with(
 {
     let base = snapshot.copy_in(alloc)?;
     let clock = snapshot.clock.copy_in(alloc)?;
-    let list = copy_pairs(alloc, snapshot.tagged.as_slice())?;
-    let pairs = Graph::from_list(alloc, list)?;
+    let pairs = Graph::from_pairs(alloc, &snapshot.tagged)?;
     Ok((base, clock, pairs))
 }

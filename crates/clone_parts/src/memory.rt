@@ -2,7 +2,7 @@
 ghost use Rattle.std.specs.Prelude.{◌≡◌, ◌+◌, ◌≤◌, ◌++◌, drop, vec_len, vec_capacity};
 
 use journal_store::Head;
-use mld_ops::{Entry, Tagged};
+use mld_ops::{Entry, PairList};
 use std::collections::VecDeque;
 use tree_clock::Clock;
 
@@ -28,9 +28,9 @@ pub fn drop_front(entries: &mut Vec<Entry>, count: usize)
 }
 
 /// Puts what a head has in place of a base.
-pub fn replace_base(base: &mut Clock, pairs: &mut Vec<Tagged>, head: Head)
+pub fn replace_base(base: &mut Clock, pairs: &mut PairList, head: Head)
     ensures base { base.new.ticks ≡ head.base.ticks }
-    ensures pairs { pairs.new.items ≡ head.tagged.items }
+    ensures pairs { pairs.new ≡ head.tagged }
 {
     let Head {
         id: _,

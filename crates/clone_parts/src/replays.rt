@@ -11,7 +11,7 @@ ghost use Rattle.tree_clock.specs.Lists.{IsAscending};
 
 use graph_index::Graph;
 use journal_store::journal_sides::Head;
-use mld_ops::{Entry, Tagged, copy_pairs};
+use mld_ops::{Entry, PairList};
 use op_fusion::cut;
 use std::alloc::{AllocError, Global};
 use tree_clock::{Clock, Dot, Path};
@@ -34,12 +34,11 @@ pub fn replay(alloc: Global, head: &Head, entries: Vec<Entry>) -> Result<Replaye
     ensures clock { IfOk result (λ _. IsClock head.now.base.ticks) }
     ensures entries { IfOk result (λ replayed. replayed.entries.items ≡ entries.items) }
     ensures leads { IfOk result (λ replayed.
-        LeadsTo head.now.base.ticks head.now.tagged.items entries.items replayed.clock.ticks replayed.pairs.pairs) }
+        LeadsTo head.now.base.ticks head.now.tagged entries.items replayed.clock.ticks replayed.pairs.pairs) }
     ensures covered { IfOk result (λ replayed. CoversAll replayed.clock.ticks replayed.pairs.pairs) }
 {
     let mut clock = head.base.copy_in(alloc)?;
-    let list = copy_pairs(alloc, head.tagged.as_slice())?;
-    let mut pairs = Graph::from_list(alloc, list)?;
+    let mut pairs = Graph::from_pairs(alloc, &head.tagged)?;
     take_all(alloc, &mut clock, &mut pairs, entries.as_slice())?;
     Ok(Replayed {
         clock,
@@ -52,22 +51,21 @@ pub fn replay(alloc: Global, head: &Head, entries: Vec<Entry>) -> Result<Replaye
 pub fn led_to(
     alloc: Global,
     base: &Clock,
-    pairs: &[Tagged],
+    pairs: &PairList,
     entries: &[Entry],
-) -> Result<(Clock, Vec<Tagged>), AllocError>
+) -> Result<(Clock, PairList), AllocError>
     requires ascending { IsAscending tagged_cmp pairs.now }
     requires covered { CoversAll base.now.ticks pairs.now }
     requires ready { AreReadyEntries base.now.ticks entries.now }
-    ensures leads { IfOk result (λ led. LeadsTo base.now.ticks pairs.now entries.now led.0.ticks led.1.items) }
-    ensures covered { IfOk result (λ led. CoversAll led.0.ticks led.1.items) }
-    ensures ascending { IfOk result (λ led. IsAscending tagged_cmp led.1.items) }
+    ensures leads { IfOk result (λ led. LeadsTo base.now.ticks pairs.now entries.now led.0.ticks led.1) }
+    ensures covered { IfOk result (λ led. CoversAll led.0.ticks led.1) }
+    ensures ascending { IfOk result (λ led. IsAscending tagged_cmp led.1) }
     ensures clock { IfOk result (λ led. IsClock led.0.ticks) }
 {
     let mut clock = base.copy_in(alloc)?;
-    let list = copy_pairs(alloc, pairs)?;
-    let mut graph = Graph::from_list(alloc, list)?;
+    let mut graph = Graph::from_pairs(alloc, pairs)?;
     take_all(alloc, &mut clock, &mut graph, entries)?;
-    let led = graph.to_list(alloc)?;
+    let led = graph.to_pairs(alloc)?;
     tell_clock(&clock);
     Ok((clock, led))
 }

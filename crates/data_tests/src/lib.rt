@@ -13,6 +13,8 @@ mod made;
 #[cfg(test)]
 mod operations;
 #[cfg(test)]
+mod pair_lists;
+#[cfg(test)]
 mod paths;
 #[cfg(test)]
 mod sets;

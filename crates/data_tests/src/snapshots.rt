@@ -36,7 +36,8 @@ fn a_join_has_the_ticks_of_both_and_what_the_snapshot_brings(rt: HostRuntime) ->
     let pair = Box::new(alloc, pair(alloc, "w", &left(4))?)?;
     assert!(rt; known.covers(&pair.dot));
     let snapshot = Box::new(alloc, of_one(alloc, &known, &pair)?)?;
-    assert!(rt; have_dots(&snapshot.tagged, &[left(4)]));
+    let kept = Box::new(alloc, snapshot.tagged.to_list(alloc)?)?;
+    assert!(rt; have_dots(&kept, &[left(4)]));
     let joined = Box::new(alloc, join_with(alloc, &snapshot)?)?;
     assert!(rt; joined.0.ticks(&left(1).path) == 4 && joined.0.ticks(&right(1).path) == 1);
     assert!(rt; has_just(alloc, &joined.1, &[right(1), left(4)])?);

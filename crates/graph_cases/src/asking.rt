@@ -2,8 +2,8 @@
 ghost use Rattle.std.specs.Prelude.{◌≡◌, ◌<◌};
 
 use crate::answers::{Answer, Answers};
-use crate::lists::Both;
-use graph_index::{Graph, Steps};
+use crate::lists::{Both, boxed, push};
+use graph_index::{Graph, LentPairs, Steps};
 use mld_ops::{Tagged, Tags};
 use rdf_terms::{Iri, Term};
 use std::alloc::{AllocError, Global};
@@ -35,13 +35,28 @@ pub fn ask(alloc: Global, both: &Both, pair: &Tagged, all: Answer) -> Result<Ans
     ])
 }
 
-/// All pairs, their number, and whether each of them is there.
+/// All pairs, their number, and whether each of them is there. A graph that is made anew of them has just these, too.
 pub fn ask_all(alloc: Global, both: &Both) -> Result<Answer, AllocError> {
+    let is_moved = moves(alloc, both)?;
     let pairs = both.graph.to_list(alloc)?;
-    let is_so = pairs.iter().eq(both.list.iter())
+    let is_so = is_moved
+        && pairs.iter().eq(both.list.iter())
         && both.graph.count() == both.list.len()
         && both.list.iter().all(|pair| both.graph.has(pair));
     Ok(Answer::of(pairs.len(), is_so))
+}
+
+/// Whether all pairs move out of a graph that is made of them.
+fn moves(alloc: Global, both: &Both) -> Result<bool, AllocError> {
+    let again = again(alloc, &both.graph)?;
+    let pairs = Box::into_inner(again).into_list(alloc)?;
+    Ok(pairs.iter().eq(both.list.iter()))
+}
+
+/// A graph that is made of the pairs of another.
+fn again(alloc: Global, graph: &Graph) -> Result<Box<Graph>, AllocError> {
+    let pairs = graph.to_pairs(alloc)?;
+    boxed(alloc, Graph::from_pairs(alloc, &pairs)?)
 }
 
 /// Whether a pair is there, and its triple.
@@ -83,10 +98,22 @@ fn matches(parts: Parts<'_>, pair: &Tagged) -> bool {
 
 /// The pairs that have the parts that are given.
 fn scan(alloc: Global, both: &Both, parts: Parts<'_>) -> Result<Answer, AllocError> {
-    let mut pairs = pairs_in::<Brand>(alloc, &both.graph, parts, Blank::new(1))?;
+    let found = pairs_in::<Brand>(alloc, &both.graph, parts, Blank::new(1))?;
+    let mut pairs = copies(alloc, &found)?;
     pairs.sort_unstable_by(|pair, other| pair.cmp(other));
     let wanted = both.list.iter().filter(|pair| matches(parts, pair));
-    Ok(Answer::of(pairs.len(), pairs.iter().copied().eq(wanted)))
+    Ok(Answer::of(pairs.len(), pairs.iter().eq(wanted)))
+}
+
+/// Copies of pairs that are lent.
+fn copies(alloc: Global, lent: &LentPairs<'_>) -> Result<Vec<Tagged>, AllocError> {
+    let mut pairs = Vec::new(alloc);
+    for at in 0..lent.len() {
+        if let Some(pair) = lent.get(at) {
+            push(&mut pairs, pair.share()?)?;
+        }
+    }
+    Ok(pairs)
 }
 
 /// The same, in whatever order, with steps that are counted in a ledger of their own.
@@ -95,7 +122,7 @@ fn pairs_in<'a, L: Ledger>(
     graph: &'a Graph,
     parts: Parts<'_>,
     blank: Blank,
-) -> Result<Vec<&'a Tagged>, AllocError>
+) -> Result<LentPairs<'a>, AllocError>
     requires name { blank.name ≡ L.name }
     requires parts { blank.parts ≡ L.parts }
     requires some { 0 < L.parts }

@@ -10,6 +10,7 @@ use Rattle.rdf_terms.specs.declared.terms.Triple.{Triple}
 use Rattle.rdf_terms.specs.Order.{term_cmp, triple_cmp}
 use Rattle.rdf_terms.specs.OrderLaws.{triple_total}
 use Rattle.tree_clock.specs.Lists.{Has}
+use Rattle.mld_ops.specs.declared.pair_lists.PairRow.{PairRow}
 use Rattle.mld_ops.specs.declared.tagged.Tagged.{Tagged}
 use Rattle.mld_ops.specs.Present.{present}
 use Rattle.mld_ops.proofs.AscendingLaws.{has_filter, ascending_filter}
@@ -21,6 +22,7 @@ use Rattle.pair_orders.specs.Keys as keys
 use Rattle.pair_orders.specs.PairEntries.{StandOnce, HasTerms}
 use Rattle.pair_orders.specs.TripleEntries.{FindsTriples, term_numbers}
 use Rattle.graph_index.specs.GraphParts.{graph_parts}
+use Rattle.graph_index.specs.Graphs.{entry_pair}
 use Rattle.graph_index.specs.Matching.{HasTriple}
 use Rattle.graph_index.specs.Numbered.{term_numbered, iri_of_term, triple_at, triple_numbered, is_wanted_term, has_wanted, StandForOwn, AreAllNumbered, FindsNumbered}
 use Rattle.graph_index.specs.TermNumbers.{AreNumbersOf, HaveOwnNumbers, StandApart}
@@ -127,7 +129,7 @@ module _ (parts : Parts) (are : HaveOwnNumbers parts.tables parts.numbered.pairs
   pub all_numbered : AreAllNumbered (graph_parts parts)
   all_numbered pair h =
       let n = numbered_in parts.tables parts.numbered.pairs are (graph_parts parts).pairs refl pair h in
-      (term_numbers n.0, triple_of_own pair n.0 n.2)
+      (term_numbers n.0.0, triple_of_own pair n.0.0 n.2)
 
   -- no two lists of numbers are of one triple
   pub same_terms : (a b : TermNumbers) (triple : Triple) → triple_numbered (graph_parts parts) a ≡ Some triple → triple_numbered (graph_parts parts) b ≡ Some triple → a ≡ b
@@ -144,17 +146,17 @@ module _ (parts : Parts) (are : HaveOwnNumbers parts.tables parts.numbered.pairs
       ↔ ((triple : Triple) × (triple_numbered (graph_parts parts) wanted ≡ Some triple) × HasTriple (graph_parts parts).pairs triple)
   terms_found wanted = (
     λ h.
-        let own = triple_of_own h.0.1 h.0.0 (are h.0 h.1) in
+        let own = triple_of_own (entry_pair parts.tables.paths h.0) h.0.0 (are h.0 h.1).numbers in
         let same : term_numbers h.0.0 ≡ wanted = λ i. record { s = h.2 i; p = h.3 i; o = h.4 i } in (
           h.0.1.triple,
           subst (λ (w : TermNumbers). triple_numbered (graph_parts parts) w ≡ Some h.0.1.triple) same own,
-          (h.0.1.dot, in_view parts.tables parts.numbered.pairs are (graph_parts parts).pairs refl h.0.0 h.0.1 h.1),
+          ((entry_pair parts.tables.paths h.0).dot, in_view parts.tables parts.numbered.pairs are (graph_parts parts).pairs refl h.0 h.1),
         ),
     λ h.
         let pair : Tagged = record { triple = h.0; dot = h.2.0 } in
         let n = numbered_in parts.tables parts.numbered.pairs are (graph_parts parts).pairs refl pair h.2.1 in
-        let e = same_terms (term_numbers n.0) wanted h.0 (triple_of_own pair n.0 n.2) h.1 in
-        ((n.0, pair), n.1, ap (λ (w : TermNumbers). w.s) e, ap (λ (w : TermNumbers). w.p) e, ap (λ (w : TermNumbers). w.o) e),
+        let e = same_terms (term_numbers n.0.0) wanted h.0 (triple_of_own pair n.0.0 n.2) h.1 in
+        (n.0, n.1, ap (λ (w : TermNumbers). w.s) e, ap (λ (w : TermNumbers). w.p) e, ap (λ (w : TermNumbers). w.o) e),
   )
 
   -- ---- wanted numbers
@@ -182,8 +184,8 @@ module _ (parts : Parts) (are : HaveOwnNumbers parts.tables parts.numbered.pairs
       λ i. s i && (p i && o i)
 
   -- as many have them
-  pub as_many_wanted : (wanted : Places) → StandOnce (map (λ (e : Numbers × Tagged). e.0) parts.numbered.pairs)
-      → length (filter (λ (e : Numbers × Tagged). keys.has_places wanted e.0) parts.numbered.pairs)
+  pub as_many_wanted : (wanted : Places) → StandOnce (map (λ (e : Numbers × PairRow). e.0) parts.numbered.pairs)
+      → length (filter (λ (e : Numbers × PairRow). keys.has_places wanted e.0) parts.numbered.pairs)
       ≡ length (filter (λ (pair : Tagged). has_wanted (graph_parts parts) wanted pair.triple) (graph_parts parts).pairs)
   as_many_wanted wanted once =
       as_many_by parts.tables parts.numbered.pairs are (graph_parts parts).pairs refl (λ (pair : Tagged). has_wanted (graph_parts parts) wanted pair.triple) wanted
@@ -195,7 +197,7 @@ module _ (parts : Parts) (are : HaveOwnNumbers parts.tables parts.numbered.pairs
     all_there : AllThere (triple_numbered (graph_parts parts)) found
     all_there n h =
         let m = (f.members n).0 h in
-        (m.0.1.triple, subst (λ (w : TermNumbers). triple_numbered (graph_parts parts) w ≡ Some m.0.1.triple) m.3 (triple_of_own m.0.1 m.0.0 (are m.0 m.1)))
+        (m.0.1.triple, subst (λ (w : TermNumbers). triple_numbered (graph_parts parts) w ≡ Some m.0.1.triple) m.3 (triple_of_own (entry_pair parts.tables.paths m.0) m.0.0 (are m.0 m.1).numbers))
 
     abbrev found_triples : List Triple
     found_triples = gathered (triple_numbered (graph_parts parts)) found all_there
@@ -205,29 +207,30 @@ module _ (parts : Parts) (are : HaveOwnNumbers parts.tables parts.numbered.pairs
         let w = (has_filter (has_wanted (graph_parts parts) wanted) (present (graph_parts parts).pairs) triple).0 h in
         let q = (has_present (graph_parts parts).pairs triple).0 w.0 in
         let n = numbered_in parts.tables parts.numbered.pairs are (graph_parts parts).pairs refl q.pair q.stands in
-        has_gathered (triple_numbered (graph_parts parts)) found all_there (term_numbers n.0) triple
-        ((f.members (term_numbers n.0)).1 (
-          (n.0, q.pair),
+        has_gathered (triple_numbered (graph_parts parts)) found all_there (term_numbers n.0.0) triple
+        ((f.members (term_numbers n.0.0)).1 (
+          n.0,
           n.1,
-          sym (wanted_same wanted q.pair n.0 n.2) ∙ ap (has_wanted (graph_parts parts) wanted) q.is ∙ w.1,
+          sym (wanted_same wanted q.pair n.0.0 n.2) ∙ ap (has_wanted (graph_parts parts) wanted) q.is ∙ w.1,
           refl,
         ))
-        (triple_of_own q.pair n.0 n.2 ∙ ap (λ t. Some t) q.is)
+        (triple_of_own q.pair n.0.0 n.2 ∙ ap (λ t. Some t) q.is)
 
     back : (triple : Triple) → Has found_triples triple → Has (filter (has_wanted (graph_parts parts) wanted) (present (graph_parts parts).pairs)) triple
     back triple h =
         let g = gathered_has (triple_numbered (graph_parts parts)) found all_there triple h in
         let m = (f.members g.0).0 g.1 in
-        let own = are m.0 m.1 in
+        let pair : Tagged = entry_pair parts.tables.paths m.0 in
+        let own = (are m.0 m.1).numbers in
         let is : m.0.1.triple ≡ triple = some_injective m.0.1.triple triple
-        (sym (triple_of_own m.0.1 m.0.0 own) ∙ ap (triple_numbered (graph_parts parts)) m.3 ∙ g.2) in
+        (sym (triple_of_own pair m.0.0 own) ∙ ap (triple_numbered (graph_parts parts)) m.3 ∙ g.2) in
         (has_filter (has_wanted (graph_parts parts) wanted) (present (graph_parts parts).pairs) triple).1 (
           (has_present (graph_parts parts).pairs triple).1 (record {
-            pair = m.0.1;
-            stands = in_view parts.tables parts.numbered.pairs are (graph_parts parts).pairs refl m.0.0 m.0.1 m.1;
+            pair = pair;
+            stands = in_view parts.tables parts.numbered.pairs are (graph_parts parts).pairs refl m.0 m.1;
             is = is;
           }),
-          ap (has_wanted (graph_parts parts) wanted) (sym is) ∙ wanted_same wanted m.0.1 m.0.0 own ∙ m.2,
+          ap (has_wanted (graph_parts parts) wanted) (sym is) ∙ wanted_same wanted pair m.0.0 own ∙ m.2,
         )
 
     pub finds_numbered : FindsNumbered (graph_parts parts) wanted found

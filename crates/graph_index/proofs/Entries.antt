@@ -2,15 +2,17 @@
 use Rattle.std.proofs.Common.{◌≡◌, ◌∙◌, List, [], ◌∷◌, ◌++◌, map, ◌↔◌, ◌⊎◌, sym, subst, ap, inl, inr}
 use Rattle.std.proofs.lemmas.List.{map-append}
 use Rattle.tree_clock.specs.Lists.{Has, IsAscending}
+use Rattle.mld_ops.specs.declared.pair_lists.PairRow.{PairRow}
 use Rattle.mld_ops.specs.declared.tagged.Tagged.{Tagged}
 use Rattle.mld_ops.specs.Tagged.{tagged_cmp}
 use Rattle.mld_ops.proofs.AscendingLaws.{below_member, has_append, has_left, has_right, not_below_itself}
 use Rattle.mld_ops.proofs.TaggedLaws.{tagged_total}
 use Rattle.pair_orders.specs.PairEntries.{StandOnce}
 use Rattle.pair_orders.specs.declared.keys.Numbers.{Numbers}
-use Rattle.graph_index.specs.Graphs.{pairs_of}
+use Rattle.mld_ops.specs.PairLists.{row_pair}
+use Rattle.graph_index.specs.Graphs.{entry_pair, pairs_of}
 use Rattle.graph_index.specs.Matching.{HasNoRepeat}
-use Rattle.graph_index.specs.TermNumbers.{TablesValue, AreNumbersOf, HaveOwnNumbers}
+use Rattle.graph_index.specs.TermNumbers.{TablesValue, AreNumbersOf, HaveOwnNumbers, IsOwnEntry}
 use Rattle.graph_index.proofs.Numbers.{same_pair}
 use Rattle.graph_index.proofs.Sorting.{has_image, image_has}
 
@@ -45,34 +47,34 @@ once_more (y ∷ xs) x o n = (
 )
 
 -- one more pair with its numbers
-module _ (tables : TablesValue) (old new : List (Numbers × Tagged)) (numbers : Numbers) (pair : Tagged) (is : new ≡ old ++ (numbers, pair) ∷ []) where
-  pub own_more : HaveOwnNumbers tables old → AreNumbersOf tables pair numbers → HaveOwnNumbers tables new
-  own_more are own e h = elim (has_append old ((numbers, pair) ∷ []) e (subst (λ (zs : List (Numbers × Tagged)). Has zs e) is h)) [
+module _ (tables : TablesValue) (old new : List (Numbers × PairRow)) (numbers : Numbers) (row : PairRow) (pair : Tagged) (is : new ≡ old ++ (numbers, row) ∷ []) (row_is : row_pair tables.paths row ≡ pair) where
+  pub own_more : HaveOwnNumbers tables old → IsOwnEntry tables (numbers, row) → HaveOwnNumbers tables new
+  own_more are own e h = elim (has_append old ((numbers, row) ∷ []) e (subst (λ (zs : List (Numbers × PairRow)). Has zs e) is h)) [
     | inl k ↦ are e k
-    | inr k ↦ elim k [ inl q ↦ subst (λ (w : Numbers × Tagged). AreNumbersOf tables w.1 w.0) q own | inr m ↦ absurd m ]
+    | inr k ↦ elim k [ inl q ↦ subst (λ (w : Numbers × PairRow). IsOwnEntry tables w) q own | inr m ↦ absurd m ]
   ]
 
-  pub stand_once_more : HaveOwnNumbers tables old → AreNumbersOf tables pair numbers → StandOnce (map (λ (e : Numbers × Tagged). e.0) old) → ¬ Has (pairs_of old) pair
-      → StandOnce (map (λ (e : Numbers × Tagged). e.0) new)
+  pub stand_once_more : HaveOwnNumbers tables old → AreNumbersOf tables pair numbers → StandOnce (map (λ (e : Numbers × PairRow). e.0) old) → ¬ Has (pairs_of tables.paths old) pair
+      → StandOnce (map (λ (e : Numbers × PairRow). e.0) new)
   stand_once_more are own once apart =
-      subst StandOnce (sym (ap (map (λ (e : Numbers × Tagged). e.0)) is ∙ map-append (λ (e : Numbers × Tagged). e.0) old ((numbers, pair) ∷ [])))
-      (once_more (map (λ (e : Numbers × Tagged). e.0) old) numbers once (λ h.
-      let i = image_has (λ (e : Numbers × Tagged). e.0) old numbers h in
-      apart (subst (λ (w : Tagged). Has (pairs_of old) w) (same_pair tables i.0.1 pair i.0.0 numbers i.2 (are i.0 i.1) own) (has_image (λ (e : Numbers × Tagged). e.1) old i.0 i.1))))
+      subst StandOnce (sym (ap (map (λ (e : Numbers × PairRow). e.0)) is ∙ map-append (λ (e : Numbers × PairRow). e.0) old ((numbers, row) ∷ [])))
+      (once_more (map (λ (e : Numbers × PairRow). e.0) old) numbers once (λ h.
+      let i = image_has (λ (e : Numbers × PairRow). e.0) old numbers h in
+      apart (subst (λ (w : Tagged). Has (pairs_of tables.paths old) w) (same_pair tables (entry_pair tables.paths i.0) pair i.0.0 numbers i.2 (are i.0 i.1).numbers own) (has_image (entry_pair tables.paths) old i.0 i.1))))
 
-  pub members_more : (other : Tagged) → Has (pairs_of new) other ↔ (Has (pairs_of old) other ⊎ (other ≡ pair))
+  pub members_more : (other : Tagged) → Has (pairs_of tables.paths new) other ↔ (Has (pairs_of tables.paths old) other ⊎ (other ≡ pair))
   members_more other =
-      let same = ap pairs_of is ∙ map-append (λ (e : Numbers × Tagged). e.1) old ((numbers, pair) ∷ []) in (
-        λ h. elim (has_append (pairs_of old) (pair ∷ []) other (subst (λ (zs : List Tagged). Has zs other) same h)) [
+      let same = ap (pairs_of tables.paths) is ∙ map-append (entry_pair tables.paths) old ((numbers, row) ∷ []) ∙ ap (λ (w : Tagged). pairs_of tables.paths old ++ w ∷ []) row_is in (
+        λ h. elim (has_append (pairs_of tables.paths old) (pair ∷ []) other (subst (λ (zs : List Tagged). Has zs other) same h)) [
           | inl k ↦ inl k
           | inr k ↦ elim k [ inl q ↦ inr (sym q) | inr m ↦ absurd m ]
         ],
         λ h. subst (λ (zs : List Tagged). Has zs other) (sym same) (elim h [
-          | inl k ↦ has_left (pairs_of old) (pair ∷ []) other k
-          | inr q ↦ has_right (pairs_of old) (pair ∷ []) other (inl (sym q))
+          | inl k ↦ has_left (pairs_of tables.paths old) (pair ∷ []) other k
+          | inr q ↦ has_right (pairs_of tables.paths old) (pair ∷ []) other (inl (sym q))
         ]),
       )
 
 -- a list that is empty has no pair
-pub none_there : (entries : List (Numbers × Tagged)) (pair : Tagged) → entries ≡ [] → Has (pairs_of entries) pair → ⊥
-none_there entries pair e h = subst (λ (zs : List (Numbers × Tagged)). Has (pairs_of zs) pair) e h
+pub none_there : (tables : TablesValue) (entries : List (Numbers × PairRow)) (pair : Tagged) → entries ≡ [] → Has (pairs_of tables.paths entries) pair → ⊥
+none_there tables entries pair e h = subst (λ (zs : List (Numbers × PairRow)). Has (pairs_of tables.paths zs) pair) e h

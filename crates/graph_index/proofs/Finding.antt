@@ -17,6 +17,7 @@ use Rattle.rdf_terms.specs.OrderLaws.{triple_total, triple_exact}
 use Rattle.tree_clock.specs.declared.dots.Dot.{Dot}
 use Rattle.tree_clock.specs.declared.dots.Range.{Range}
 use Rattle.tree_clock.specs.Lists.{Has, IsAscending}
+use Rattle.mld_ops.specs.declared.pair_lists.PairRow.{PairRow}
 use Rattle.mld_ops.specs.declared.tagged.Tagged.{Tagged}
 use Rattle.mld_ops.specs.Tagged.{tagged_cmp}
 use Rattle.mld_ops.proofs.AscendingLaws.{has_filter, ascending_filter}
@@ -24,13 +25,14 @@ use Rattle.pair_orders.specs.declared.keys.Numbers.{Numbers}
 use Rattle.pair_orders.specs.declared.keys.Places.{Places}
 use Rattle.pair_orders.specs.Keys.{has_places, is_wanted}
 use Rattle.pair_orders.specs.PairEntries.{StandOnce, HasNumbers, HasTerms, FindsEntries, is_of_ticks}
-use Rattle.graph_index.specs.Graphs.{in_order_of, pairs_of}
+use Rattle.mld_ops.specs.PairLists.{row_pair, rows_pairs}
+use Rattle.graph_index.specs.Graphs.{entry_pair, in_order_of, pairs_of}
 use Rattle.graph_index.specs.Matching.{has_iri, is_term, matches, is_of, is_within_range, FindsEach, HasTriple}
 use Rattle.graph_index.specs.TermNumbers.{TablesValue, AreNumbersOf, HaveOwnNumbers, IsNumbered, iri_number, number_given, ArePlaces, LackNumber}
 use Rattle.number_tables.specs.TableNumbers.{number_of_term, number_of_path}
 use Rattle.number_tables.proofs.Numbers.{term_decides}
 use Rattle.graph_index.proofs.Numbers.{same_iri, same_term, same_path, same_pair, same_numbers}
-use Rattle.graph_index.proofs.Moving.{once_by_numbers}
+use Rattle.graph_index.proofs.Moving.{entries_are, once_by_numbers, with_numbers}
 use Rattle.graph_index.proofs.WantedPlaces.{some_injective}
 use Rattle.graph_index.proofs.Putting.{order_members, order_ascends, order_is, order_count, order_length}
 use Rattle.graph_index.proofs.Sorting.{has_image, image_has}
@@ -163,97 +165,96 @@ range_wanted tables range path pair numbers number own =
     let t = sym own.tick in
     λ i. p i && (nat_le range.first (t i) && nat_le (t i) range.last)
 
-once_filter : (test : Numbers × Tagged → Bool) (pairs : List (Numbers × Tagged)) → StandOnce (map (λ (e : Numbers × Tagged). e.0) pairs) → StandOnce (map (λ (e : Numbers × Tagged). e.0) (filter test pairs))
+once_filter : (test : Numbers × PairRow → Bool) (pairs : List (Numbers × PairRow)) → StandOnce (map (λ (e : Numbers × PairRow). e.0) pairs) → StandOnce (map (λ (e : Numbers × PairRow). e.0) (filter test pairs))
 once_filter test [] once = tt
 once_filter test (e ∷ pairs) once = by (test e) (once_filter test pairs once.1)
   where
-    gone : ¬ Has (map (λ (e : Numbers × Tagged). e.0) (filter test pairs)) e.0
+    gone : ¬ Has (map (λ (e : Numbers × PairRow). e.0) (filter test pairs)) e.0
     gone h =
-        let i = image_has (λ (e : Numbers × Tagged). e.0) (filter test pairs) e.0 h in
-        once.0 (subst (λ (w : Numbers). Has (map (λ (e : Numbers × Tagged). e.0) pairs) w) i.2 (has_image (λ (e : Numbers × Tagged). e.0) pairs i.0 ((has_filter test pairs i.0).0 i.1).0))
+        let i = image_has (λ (e : Numbers × PairRow). e.0) (filter test pairs) e.0 h in
+        once.0 (subst (λ (w : Numbers). Has (map (λ (e : Numbers × PairRow). e.0) pairs) w) i.2 (has_image (λ (e : Numbers × PairRow). e.0) pairs i.0 ((has_filter test pairs i.0).0 i.1).0))
 
-    by : (b : Bool) → StandOnce (map (λ (e : Numbers × Tagged). e.0) (filter test pairs)) → StandOnce (map (λ (e : Numbers × Tagged). e.0) (cond b (e ∷ filter test pairs) (filter test pairs)))
+    by : (b : Bool) → StandOnce (map (λ (e : Numbers × PairRow). e.0) (filter test pairs)) → StandOnce (map (λ (e : Numbers × PairRow). e.0) (cond b (e ∷ filter test pairs) (filter test pairs)))
     by true rest = (gone, rest)
     by false rest = rest
 
 -- ---- what a scan finds
 
-module _ (tables : TablesValue) (pairs : List (Numbers × Tagged)) (are : HaveOwnNumbers tables pairs) (view : List Tagged) (view_is : in_order_of (pairs_of pairs) ≡ view) where
+module _ (tables : TablesValue) (pairs : List (Numbers × PairRow)) (are : HaveOwnNumbers tables pairs) (view : List Tagged) (view_is : in_order_of (pairs_of tables.paths pairs) ≡ view) where
   -- the graph's pairs
-  pub view_members : (pair : Tagged) → Has view pair ↔ Has (pairs_of pairs) pair
-  view_members pair = let m = order_members (pairs_of pairs) pair in (
+  pub view_members : (pair : Tagged) → Has view pair ↔ Has (pairs_of tables.paths pairs) pair
+  view_members pair = let m = order_members (pairs_of tables.paths pairs) pair in (
     λ h. m.0 (subst (λ (zs : List Tagged). Has zs pair) (sym view_is) h),
     λ h. subst (λ (zs : List Tagged). Has zs pair) view_is (m.1 h),
   )
 
   pub view_ascends : IsAscending tagged_cmp view
-  view_ascends = subst (IsAscending tagged_cmp) view_is (order_ascends (pairs_of pairs))
+  view_ascends = subst (IsAscending tagged_cmp) view_is (order_ascends (pairs_of tables.paths pairs))
 
-  -- a pair that the graph has, with its numbers
-  pub numbered_in : (pair : Tagged) → Has view pair → (numbers : Numbers) × Has pairs (numbers, pair) × AreNumbersOf tables pair numbers
+  -- a pair that the graph has: its row, with its numbers
+  pub numbered_in : (pair : Tagged) → Has view pair → (entry : Numbers × PairRow) × Has pairs entry × AreNumbersOf tables pair entry.0 × (entry_pair tables.paths entry ≡ pair)
   numbered_in pair h =
-      let i = image_has (λ (e : Numbers × Tagged). e.1) pairs pair ((view_members pair).0 h) in
-      let n = are i.0 i.1 in
-      (i.0.0, subst (λ (w : Tagged). Has pairs (i.0.0, w)) i.2 i.1, subst (λ (w : Tagged). AreNumbersOf tables w i.0.0) i.2 n)
+      let i = image_has (entry_pair tables.paths) pairs pair ((view_members pair).0 h) in
+      (i.0, i.1, subst (λ (w : Tagged). AreNumbersOf tables w i.0.0) i.2 (are i.0 i.1).numbers, i.2)
 
-  pub in_view : (numbers : Numbers) (pair : Tagged) → Has pairs (numbers, pair) → Has view pair
-  in_view numbers pair h = (view_members pair).1 (has_image (λ (e : Numbers × Tagged). e.1) pairs (numbers, pair) h)
+  pub in_view : (entry : Numbers × PairRow) → Has pairs entry → Has view (entry_pair tables.paths entry)
+  in_view entry h = (view_members (entry_pair tables.paths entry)).1 (has_image (entry_pair tables.paths) pairs entry h)
 
-  pub finds_none : (s p : Option (List ℕ)) (o : Option Term) (found : List Tagged) → found ≡ [] → LackNumber tables s p o → FindsEach (matches s p o) view found
-  finds_none s p o found e lack = subst (FindsEach (matches s p o) view) (sym e) (record {
+  pub finds_none : (s p : Option (List ℕ)) (o : Option Term) (rows : List PairRow) → rows ≡ [] → LackNumber tables s p o → FindsEach (matches s p o) view (rows_pairs tables.paths rows)
+  finds_none s p o rows e lack = subst (λ (rs : List PairRow). FindsEach (matches s p o) view (rows_pairs tables.paths rs)) (sym e) (record {
     members = λ pair. (
       λ h. absurd h,
-      λ h. let n = numbered_in pair h.0 in absurd (matches_none tables s p o pair n.0 lack n.2 h.1),
+      λ h. let n = numbered_in pair h.0 in absurd (matches_none tables s p o pair n.0.0 lack n.2 h.1),
     );
     once = tt;
   })
 
-  pub finds_all : (s p : Option (List ℕ)) (o : Option Term) (wanted : Places) (found : List Tagged) → ArePlaces tables s p o wanted → FindsEntries (has_places wanted) pairs found
-      → FindsEach (matches s p o) view found
-  finds_all s p o wanted found places f = subst (FindsEach (matches s p o) view) f.are (record {
+  pub finds_all : (s p : Option (List ℕ)) (o : Option Term) (wanted : Places) (rows : List PairRow) → ArePlaces tables s p o wanted → FindsEntries (has_places wanted) pairs rows
+      → FindsEach (matches s p o) view (rows_pairs tables.paths rows)
+  finds_all s p o wanted rows places f = subst (FindsEach (matches s p o) view) (entries_are tables.paths f.entries rows f.are) (record {
     members = λ pair. (
       λ h.
-          let i = image_has (λ (e : Numbers × Tagged). e.1) f.entries pair h in
+          let i = image_has (entry_pair tables.paths) f.entries pair h in
           let m = (f.members i.0).0 i.1 in
-          let own = are i.0 m.0 in (
-            subst (λ (w : Tagged). Has view w) i.2 (in_view i.0.0 i.0.1 m.0),
-            subst (λ (w : Tagged). matches s p o w ≡ true) i.2 (matches_wanted tables s p o wanted i.0.1 i.0.0 places own ∙ m.1),
+          let own = (are i.0 m.0).numbers in (
+            subst (λ (w : Tagged). Has view w) i.2 (in_view i.0 m.0),
+            subst (λ (w : Tagged). matches s p o w ≡ true) i.2 (matches_wanted tables s p o wanted (entry_pair tables.paths i.0) i.0.0 places own ∙ m.1),
           ),
       λ h.
           let n = numbered_in pair h.0 in
-          has_image (λ (e : Numbers × Tagged). e.1) f.entries (n.0, pair)
-          ((f.members (n.0, pair)).1 (n.1, sym (matches_wanted tables s p o wanted pair n.0 places n.2) ∙ h.1)),
+          subst (λ (w : Tagged). Has (pairs_of tables.paths f.entries) w) n.3 (has_image (entry_pair tables.paths) f.entries n.0
+          ((f.members n.0).1 (n.1, sym (matches_wanted tables s p o wanted pair n.0.0 places n.2) ∙ h.1))),
     );
     once = once_by_numbers tables f.entries (λ e h. are e ((f.members e).0 h).0) f.once;
   })
 
   -- as many pass a test as have the wanted numbers, where it tells these
   pub as_many_by : (test : Tagged → Bool) (wanted : Places) → ((pair : Tagged) (numbers : Numbers) → AreNumbersOf tables pair numbers → test pair ≡ has_places wanted numbers)
-      → StandOnce (map (λ (e : Numbers × Tagged). e.0) pairs) → length (filter (λ (e : Numbers × Tagged). has_places wanted e.0) pairs) ≡ length (filter test view)
+      → StandOnce (map (λ (e : Numbers × PairRow). e.0) pairs) → length (filter (λ (e : Numbers × PairRow). has_places wanted e.0) pairs) ≡ length (filter test view)
   as_many_by test wanted tells once =
-      counted pairs are ∙ sym (order_count test (pairs_of pairs) (once_by_numbers tables pairs are once)) ∙ ap (λ (zs : List Tagged). length (filter test zs)) view_is
+      counted pairs are ∙ sym (order_count test (pairs_of tables.paths pairs) (once_by_numbers tables pairs are once)) ∙ ap (λ (zs : List Tagged). length (filter test zs)) view_is
     where
-      counted : (list : List (Numbers × Tagged)) → HaveOwnNumbers tables list → length (filter (λ (e : Numbers × Tagged). has_places wanted e.0) list) ≡ length (filter test (pairs_of list))
+      counted : (list : List (Numbers × PairRow)) → HaveOwnNumbers tables list → length (filter (λ (e : Numbers × PairRow). has_places wanted e.0) list) ≡ length (filter test (pairs_of tables.paths list))
       counted [] own = refl
       counted (e ∷ list) own =
-          by (has_places wanted e.0) (test e.1) (sym (tells e.1 e.0 (own e (inl refl))))
-          (filter (λ (e : Numbers × Tagged). has_places wanted e.0) list) (filter test (pairs_of list)) (counted list (λ x h. own x (inr h)))
+          by (has_places wanted e.0) (test (entry_pair tables.paths e)) (sym (tells (entry_pair tables.paths e) e.0 (own e (inl refl)).numbers))
+          (filter (λ (e : Numbers × PairRow). has_places wanted e.0) list) (filter test (pairs_of tables.paths list)) (counted list (λ x h. own x (inr h)))
         where
-          by : (a b : Bool) → a ≡ b → (xs : List (Numbers × Tagged)) (ys : List Tagged) → length xs ≡ length ys → length (cond a (e ∷ xs) xs) ≡ length (cond b (e.1 ∷ ys) ys)
+          by : (a b : Bool) → a ≡ b → (xs : List (Numbers × PairRow)) (ys : List Tagged) → length xs ≡ length ys → length (cond a (e ∷ xs) xs) ≡ length (cond b (entry_pair tables.paths e ∷ ys) ys)
           by true true q xs ys l = ap (λ n. suc n) l
           by true false q xs ys l = absurd (true≢false q)
           by false true q xs ys l = absurd (false≢true q)
           by false false q xs ys l = l
 
   -- as many match as have the wanted numbers
-  pub as_many : (s p : Option (List ℕ)) (o : Option Term) (wanted : Places) → ArePlaces tables s p o wanted → StandOnce (map (λ (e : Numbers × Tagged). e.0) pairs)
-      → length (filter (λ (e : Numbers × Tagged). has_places wanted e.0) pairs) ≡ length (filter (matches s p o) view)
+  pub as_many : (s p : Option (List ℕ)) (o : Option Term) (wanted : Places) → ArePlaces tables s p o wanted → StandOnce (map (λ (e : Numbers × PairRow). e.0) pairs)
+      → length (filter (λ (e : Numbers × PairRow). has_places wanted e.0) pairs) ≡ length (filter (matches s p o) view)
   as_many s p o wanted places once = as_many_by (matches s p o) wanted (λ pair numbers own. matches_wanted tables s p o wanted pair numbers places own) once
 
-  pub length_is : StandOnce (map (λ (e : Numbers × Tagged). e.0) pairs) → length pairs ≡ length view
-  length_is once = mapped pairs ∙ sym (order_length (pairs_of pairs) (once_by_numbers tables pairs are once)) ∙ ap length view_is
+  pub length_is : StandOnce (map (λ (e : Numbers × PairRow). e.0) pairs) → length pairs ≡ length view
+  length_is once = mapped pairs ∙ sym (order_length (pairs_of tables.paths pairs) (once_by_numbers tables pairs are once)) ∙ ap length view_is
     where
-      mapped : (list : List (Numbers × Tagged)) → length list ≡ length (pairs_of list)
+      mapped : (list : List (Numbers × PairRow)) → length list ≡ length (pairs_of tables.paths list)
       mapped [] = refl
       mapped (e ∷ list) = ap (λ n. suc n) (mapped list)
 
@@ -263,19 +264,20 @@ module _ (tables : TablesValue) (pairs : List (Numbers × Tagged)) (are : HaveOw
       → HasTerms pairs s p o ↔ HasTriple view triple
   triple_found triple s p o es ep eo = (
     λ h.
-        let own = are h.0 h.1 in
+        let own = (are h.0 h.1).numbers in
         let a = same_iri tables.terms h.0.1.triple.s triple.s s (own.s ∙ ap (λ n. Some n) h.2) es in
         let b = same_iri tables.terms h.0.1.triple.p triple.p p (own.p ∙ ap (λ n. Some n) h.3) ep in
         let c = same_term tables.terms h.0.1.triple.o triple.o o (own.o ∙ ap (λ n. Some n) h.4) eo in
-        (h.0.1.dot, subst (λ (t : Triple). Has view (record { triple = t; dot = h.0.1.dot })) (λ i. record { s = a i; p = b i; o = c i }) (in_view h.0.0 h.0.1 h.1)),
+        let dot : Dot = (entry_pair tables.paths h.0).dot in
+        (dot, subst (λ (t : Triple). Has view (record { triple = t; dot = dot })) (λ i. record { s = a i; p = b i; o = c i }) (in_view h.0 h.1)),
     λ h.
         let pair : Tagged = record { triple = triple; dot = h.0 } in
         let n = numbered_in pair h.1 in (
-          (n.0, pair),
+          n.0,
           n.1,
-          some_injective n.0.s s (sym n.2.s ∙ es),
-          some_injective n.0.p p (sym n.2.p ∙ ep),
-          some_injective n.0.o o (sym n.2.o ∙ eo),
+          some_injective n.0.0.s s (sym n.2.s ∙ es),
+          some_injective n.0.0.p p (sym n.2.p ∙ ep),
+          some_injective n.0.0.o o (sym n.2.o ∙ eo),
         ),
   )
 
@@ -283,38 +285,39 @@ module _ (tables : TablesValue) (pairs : List (Numbers × Tagged)) (are : HaveOw
   triple_lacks triple lack h =
       let pair : Tagged = record { triple = triple; dot = h.0 } in
       let n = numbered_in pair h.1 in
-      matches_none tables (Some triple.s) (Some triple.p) (Some triple.o) pair n.0 lack n.2 (matches_itself triple h.0)
+      matches_none tables (Some triple.s) (Some triple.p) (Some triple.o) pair n.0.0 lack n.2 (matches_itself triple h.0)
 
   -- ---- a range
 
-  pub range_found : (range : Range) (path : ℕ) (found : List Tagged) → Some path ≡ number_of_path tables.paths range.path → StandOnce (map (λ (e : Numbers × Tagged). e.0) pairs)
-      → found ≡ pairs_of (filter (λ (e : Numbers × Tagged). is_of_ticks path range.first range.last e.0) pairs) → FindsEach (λ pair. is_within_range range pair.dot) view found
-  range_found range path found number once e =
-      let test : Numbers × Tagged → Bool = λ (e : Numbers × Tagged). is_of_ticks path range.first range.last e.0 in
-      subst (FindsEach (λ pair. is_within_range range pair.dot) view) (sym e) (record {
+  pub range_found : (range : Range) (path : ℕ) (rows : List PairRow) → Some path ≡ number_of_path tables.paths range.path → StandOnce (map (λ (e : Numbers × PairRow). e.0) pairs)
+      → rows ≡ map (λ (e : Numbers × PairRow). e.1) (filter (λ (e : Numbers × PairRow). is_of_ticks path range.first range.last e.0) pairs)
+      → FindsEach (λ pair. is_within_range range pair.dot) view (rows_pairs tables.paths rows)
+  range_found range path rows number once e =
+      let test : Numbers × PairRow → Bool = λ (e : Numbers × PairRow). is_of_ticks path range.first range.last e.0 in
+      subst (FindsEach (λ pair. is_within_range range pair.dot) view) (entries_are tables.paths (filter test pairs) rows (sym e)) (record {
         members = λ pair. (
           λ h.
-              let i = image_has (λ (e : Numbers × Tagged). e.1) (filter test pairs) pair h in
+              let i = image_has (entry_pair tables.paths) (filter test pairs) pair h in
               let m = (has_filter test pairs i.0).0 i.1 in (
-                subst (λ (w : Tagged). Has view w) i.2 (in_view i.0.0 i.0.1 m.0),
-                subst (λ (w : Tagged). is_within_range range w.dot ≡ true) i.2 (range_wanted tables range path i.0.1 i.0.0 number (are i.0 m.0) ∙ m.1),
+                subst (λ (w : Tagged). Has view w) i.2 (in_view i.0 m.0),
+                subst (λ (w : Tagged). is_within_range range w.dot ≡ true) i.2 (range_wanted tables range path (entry_pair tables.paths i.0) i.0.0 number (are i.0 m.0).numbers ∙ m.1),
               ),
           λ h.
               let n = numbered_in pair h.0 in
-              has_image (λ (e : Numbers × Tagged). e.1) (filter test pairs) (n.0, pair)
-              ((has_filter test pairs (n.0, pair)).1 (n.1, sym (range_wanted tables range path pair n.0 number n.2) ∙ h.1)),
+              subst (λ (w : Tagged). Has (pairs_of tables.paths (filter test pairs)) w) n.3 (has_image (entry_pair tables.paths) (filter test pairs) n.0
+              ((has_filter test pairs n.0).1 (n.1, sym (range_wanted tables range path pair n.0.0 number n.2) ∙ h.1))),
         );
         once = once_by_numbers tables (filter test pairs) (λ x h. are x ((has_filter test pairs x).0 h).0) (once_filter test pairs once);
       })
 
-  pub range_lacks : (range : Range) (found : List Tagged) → found ≡ [] → None ≡ number_of_path tables.paths range.path → FindsEach (λ pair. is_within_range range pair.dot) view found
-  range_lacks range found e none = subst (FindsEach (λ pair. is_within_range range pair.dot) view) (sym e) (record {
+  pub range_lacks : (range : Range) (rows : List PairRow) → rows ≡ [] → None ≡ number_of_path tables.paths range.path → FindsEach (λ pair. is_within_range range pair.dot) view (rows_pairs tables.paths rows)
+  range_lacks range rows e none = subst (λ (rs : List PairRow). FindsEach (λ pair. is_within_range range pair.dot) view (rows_pairs tables.paths rs)) (sym e) (record {
     members = λ pair. (
       λ h. absurd h,
       λ h.
           let n = numbered_in pair h.0 in
           let t = and_parts (pointwise nat_eq pair.dot.path range.path) (nat_le range.first pair.dot.tick && nat_le pair.dot.tick range.last) h.1 in
-          absurd (apart n.0.path (none ∙ ap (number_of_path tables.paths) (sym ((bytes_decides pair.dot.path range.path).0 t.0)) ∙ n.2.path)),
+          absurd (apart n.0.0.path (none ∙ ap (number_of_path tables.paths) (sym ((bytes_decides pair.dot.path range.path).0 t.0)) ∙ n.2.path)),
     );
     once = tt;
   })
@@ -326,12 +329,12 @@ module _ (tables : TablesValue) (pairs : List (Numbers × Tagged)) (are : HaveOw
 
   pub has_numbered : (pair : Tagged) (numbers : Numbers) → AreNumbersOf tables pair numbers → HasNumbers pairs numbers ↔ Has view pair
   has_numbered pair numbers own = (
-    λ h. subst (λ (w : Tagged). Has view w) (same_pair tables h.0 pair numbers numbers refl (are (numbers, h.0) h.1) own) (in_view numbers h.0 h.1),
-    λ h. let n = numbered_in pair h in (pair, subst (λ (w : Numbers). Has pairs (w, pair)) (same_numbers tables pair pair n.0 numbers refl n.2 own) n.1),
+    λ h. subst (λ (w : Tagged). Has view w) (same_pair tables (row_pair tables.paths h.0) pair numbers numbers refl (are (numbers, h.0) h.1).numbers own) (in_view (numbers, h.0) h.1),
+    λ h. let n = with_numbers tables pairs pair numbers are own ((view_members pair).0 h) in (n.0, n.1),
   )
 
   pub has_none : (pair : Tagged) → ¬ IsNumbered tables pair → Has view pair → ⊥
-  has_none pair none h = let n = numbered_in pair h in none (n.0, n.2)
+  has_none pair none h = let n = numbered_in pair h in none (n.0.0, n.2)
 
 -- ---- what was found, in order
 

@@ -4,6 +4,7 @@ pub mod Changing
 pub mod Entries
 pub mod Finding
 pub mod Fitting
+pub mod Listing
 pub mod Moving
 pub mod Numbers
 pub mod Once
@@ -12,3 +13,4 @@ pub mod Ranging
 pub mod Sorting
 pub mod Together
 pub mod WantedPlaces
+pub mod RowDots

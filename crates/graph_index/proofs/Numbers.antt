@@ -1,16 +1,19 @@
 -- Pairs and their numbers: each pair has one list of numbers, and each list of numbers one pair.
-use Rattle.std.proofs.Common.{◌≡◌, ◌∙◌, ℕ, List, Bool, true, false, nat_eq, Some, Result, Ok, Err, OnOk, OnErr, refl, sym, subst, ap}
+use Rattle.std.proofs.Common.{◌≡◌, ◌∙◌, ℕ, zero, suc, ◌<◌, List, [], ◌∷◌, Bool, true, false, get_or, length, nat_eq, Some, Result, Ok, Err, OnOk, OnErr, refl, sym, subst, ap, arith}
+use Rattle.std.proofs.lemmas.List.Quantifiers.{position-Some}
 use Rattle.std.specs.Bool.{Decides}
 use Rattle.std.specs.Cmp.Lexicographic.{pointwise, bytes_decides}
 use Rattle.std.specs.Ordering.{eq_by_cmp}
 use Rattle.rdf_terms.specs.declared.terms.Term.{Term}
 use Rattle.rdf_terms.specs.declared.terms.Term.TheVariants as terms
+use Rattle.rdf_terms.specs.declared.terms.Triple.{Triple}
 use Rattle.rdf_terms.specs.Order.{term_cmp}
+use Rattle.mld_ops.specs.PairLists.{path_numbered, row_pair}
 use Rattle.mld_ops.specs.declared.tagged.Tagged.{Tagged}
 use Rattle.number_tables.specs.TableNumbers.{number_of_term, number_of_path, with_new_value}
 use Rattle.number_tables.proofs.Numbers.{term_decides}
 use Rattle.pair_orders.specs.declared.keys.Numbers.{Numbers}
-use Rattle.graph_index.specs.TermNumbers.{TablesValue, iri_number, AreNumbersOf, IsNumbered, KeepsNumbers}
+use Rattle.graph_index.specs.TermNumbers.{TablesValue, iri_number, AreNumbersOf, AreTermsOf, IsNumbered, IsOwnEntry, KeepsNumbers}
 use Rattle.graph_index.proofs.WantedPlaces.{kept_inserted, same_place, some_injective}
 
 -- terms of one number are one term, and so are paths
@@ -19,6 +22,35 @@ same_term list a b n h k = same_place (eq_by_cmp term_cmp) term_decides list a b
 
 pub same_path : (list : List (List ℕ)) (a b : List ℕ) (n : ℕ) → number_of_path list a ≡ Some n → number_of_path list b ≡ Some n → a ≡ b
 same_path list a b n h k = same_place (pointwise nat_eq) bytes_decides list a b n h k
+
+-- a path stands at its number
+pub path_at_number : (list : List (List ℕ)) (path : List ℕ) (n : ℕ) → number_of_path list path ≡ Some n → path_numbered list n ≡ path
+path_at_number list path n h =
+    let p = position-Some (pointwise nat_eq path) list n path h in
+    same_read list n [] path p.0 ∙ sym ((bytes_decides path (get_or list n path)).0 p.1)
+  where
+    same_read : (xs : List (List ℕ)) (i : ℕ) (c d : List ℕ) → i < length xs → get_or xs i c ≡ get_or xs i d
+    same_read [] i c d l = absurd (none_below i l)
+      where
+        none_below : (i : ℕ) → i < 0 → ⊥
+        none_below i l = omega (arith, l)
+    same_read (x ∷ xs) zero c d l = refl
+    same_read (x ∷ xs) (suc i) c d l = same_read xs i c d (omega (arith, l))
+
+-- the row of a pair whose path has that number is the pair's
+pub row_is : (tables : TablesValue) (pair : Tagged) (numbers : Numbers) → AreNumbersOf tables pair numbers
+    → row_pair tables.paths (record { triple = pair.triple; path = numbers.path; tick = pair.dot.tick }) ≡ pair
+row_is tables pair numbers own =
+    let path = path_at_number tables.paths pair.dot.path numbers.path own.path in
+    λ i. record { triple = pair.triple; dot = record { path = path i; tick = pair.dot.tick } }
+
+-- with its numbers it is an own entry
+pub row_own : (tables : TablesValue) (pair : Tagged) (numbers : Numbers) → AreNumbersOf tables pair numbers
+    → IsOwnEntry tables (numbers, record { triple = pair.triple; path = numbers.path; tick = pair.dot.tick })
+row_own tables pair numbers own = record {
+  numbers = subst (λ (w : Tagged). AreNumbersOf tables w numbers) (sym (row_is tables pair numbers own)) own;
+  path = refl;
+}
 
 iri_inside : (a b : List ℕ) → terms.Iri a ≡ terms.Iri b → a ≡ b
 iri_inside a b e = cc
@@ -93,17 +125,19 @@ grown_path tables list path (Err fault) ok err = record {
   paths = λ other number h. subst (λ l. number_of_path l other ≡ Some number) (sym err) h;
 }
 
--- the numbers of a pair that were given one after another
-pub numbers_by_parts : (a b c d : TablesValue) (pair : Tagged) (s p o path : ℕ) → KeepsNumbers a b → KeepsNumbers b c → KeepsNumbers c d
-    → iri_number a pair.triple.s ≡ Some s → iri_number b pair.triple.p ≡ Some p → number_of_term c.terms pair.triple.o ≡ Some o → number_of_path d.paths pair.dot.path ≡ Some path
-    → AreNumbersOf d pair (record { s = s; p = p; o = o; path = path; tick = pair.dot.tick })
-numbers_by_parts a b c d pair s p o path f g h hs hp ho hpath = record {
-  s = h.terms (terms.Iri pair.triple.s) s (g.terms (terms.Iri pair.triple.s) s (f.terms (terms.Iri pair.triple.s) s hs));
-  p = h.terms (terms.Iri pair.triple.p) p (g.terms (terms.Iri pair.triple.p) p hp);
-  o = h.terms pair.triple.o o ho;
-  path = hpath;
-  tick = refl;
-}
+-- the numbers of terms that were given one after another
+pub terms_by_parts : (a b c : TablesValue) (triple : Triple) (s p o : ℕ) → KeepsNumbers a b → KeepsNumbers b c
+    → iri_number a triple.s ≡ Some s → iri_number b triple.p ≡ Some p → number_of_term c.terms triple.o ≡ Some o → AreTermsOf c triple (s, p, o)
+terms_by_parts a b c triple s p o f g hs hp ho = (
+  g.terms (terms.Iri triple.s) s (f.terms (terms.Iri triple.s) s hs),
+  g.terms (terms.Iri triple.p) p hp,
+  ho,
+)
+
+-- and those of a pair whose path was given one before them
+pub numbers_by_parts : (a b : TablesValue) (pair : Tagged) (s p o path : ℕ) → KeepsNumbers a b → number_of_path a.paths pair.dot.path ≡ Some path → AreTermsOf b pair.triple (s, p, o)
+    → AreNumbersOf b pair (record { s = s; p = p; o = o; path = path; tick = pair.dot.tick })
+numbers_by_parts a b pair s p o path grown is are = record { s = are.0; p = are.1; o = are.2; path = grown.paths pair.dot.path path is; tick = refl }
 
 -- ---- IRIs as terms
 

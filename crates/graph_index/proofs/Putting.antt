@@ -1,5 +1,5 @@
 -- Pairs that are put in order one by one: the list ascends and has the same pairs, and no fewer where none stood twice.
-use Rattle.std.proofs.Common.{◌≡◌, ◌∙◌, suc, List, [], ◌∷◌, Bool, true, false, length, map, ◌↔◌, ◌⊎◌, cond, refl, sym, subst, ap, inl, inr}
+use Rattle.std.proofs.Common.{◌≡◌, ◌∙◌, ℕ, suc, List, [], ◌∷◌, Bool, true, false, length, map, ◌↔◌, ◌⊎◌, cond, refl, sym, subst, ap, inl, inr}
 use Rattle.std.proofs.lemmas.List.Sorted.{IsPermutation-map}
 use Rattle.std.specs.List.{filter}
 use Rattle.std.specs.List.Sorted.{IsPermutation, IsSortedBy}
@@ -7,7 +7,9 @@ use Rattle.std.specs.Ordering.{is_lt}
 use Rattle.std.specs.declared.cmp.Ordering.{Ordering}
 use Rattle.std.specs.declared.cmp.Ordering.TheVariants.{Less, Equal, Greater}
 use Rattle.tree_clock.specs.Lists.{Has, IsAscending}
+use Rattle.mld_ops.specs.declared.pair_lists.PairRow.{PairRow}
 use Rattle.mld_ops.specs.declared.tagged.Tagged.{Tagged}
+use Rattle.mld_ops.specs.PairLists.{row_pair, rows_pairs}
 use Rattle.mld_ops.specs.Tagged.{tagged_cmp}
 use Rattle.mld_ops.proofs.AscendingLaws.{below_member, below_from_members, below_all_after, same_ascending}
 use Rattle.mld_ops.proofs.TaggedLaws.{tagged_total, tagged_exact}
@@ -136,3 +138,24 @@ sorted_order f xs ys once moved up =
 -- pairs that ascend are in order
 pub ascending_order : {X : Type 0} (f : X → Tagged) (xs : List X) → IsAscending (λ a b. tagged_cmp (f a) (f b)) xs → map f xs ≡ in_order_of (map f xs)
 ascending_order f xs up = order_is (map f xs) (map f xs) (view_ascends f tagged_cmp xs up) (λ pair. (λ h. h, λ h. h))
+
+-- ---- rows
+
+-- the pairs of rows that others are images of
+pub pairs_twice : {X : Type 0} (paths : List (List ℕ)) (row : X → PairRow) (xs : List X) → map (λ x. row_pair paths (row x)) xs ≡ rows_pairs paths (map row xs)
+pairs_twice paths row [] = refl
+pairs_twice paths row (x ∷ xs) = ap (λ (rest : List Tagged). row_pair paths (row x) ∷ rest) (pairs_twice paths row xs)
+
+-- rows of whose pairs none stands twice, sorted by these, have their pairs in order
+pub sorted_rows : {X : Type 0} (paths : List (List ℕ)) (row : X → PairRow) (xs ys : List X) → HasNoRepeat (rows_pairs paths (map row xs)) → IsPermutation xs ys
+    → IsSortedBy (λ a b. is_lt (tagged_cmp (row_pair paths (row a)) (row_pair paths (row b)))) ys → rows_pairs paths (map row ys) ≡ in_order_of (rows_pairs paths (map row xs))
+sorted_rows paths row xs ys once moved up =
+    sym (pairs_twice paths row ys)
+    ∙ sorted_order (λ x. row_pair paths (row x)) xs ys (subst HasNoRepeat (sym (pairs_twice paths row xs)) once) moved up
+    ∙ ap in_order_of (pairs_twice paths row xs)
+
+-- those of rows whose pairs ascend are in order
+pub ascending_rows : {X : Type 0} (paths : List (List ℕ)) (row : X → PairRow) (xs : List X) → IsAscending (λ a b. tagged_cmp (row_pair paths (row a)) (row_pair paths (row b))) xs
+    → rows_pairs paths (map row xs) ≡ in_order_of (rows_pairs paths (map row xs))
+ascending_rows paths row xs up =
+    sym (pairs_twice paths row xs) ∙ ascending_order (λ x. row_pair paths (row x)) xs up ∙ ap in_order_of (pairs_twice paths row xs)

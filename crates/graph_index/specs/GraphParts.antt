@@ -7,7 +7,7 @@ use Rattle.graph_index.specs.declared.parts.Parts.{Parts}
 
 -- the value of a graph of these parts
 abbrev pub graph_parts : Parts → GraphValue
-graph_parts parts = record { pairs = in_order_of (pairs_of parts.numbered.pairs); room = parts.numbered.room; tables = parts.tables }
+graph_parts parts = record { pairs = in_order_of (pairs_of parts.tables.paths parts.numbered.pairs); room = parts.numbered.room; tables = parts.tables }
 
 -- the same, of the first of a list of parts; where there is none, it has no pair
 abbrev pub graph_value : List Parts → GraphValue

@@ -5,7 +5,9 @@ use Rattle.std.specs.declared.cmp.Ordering.{Ordering}
 use Rattle.std.specs.declared.cmp.Ordering.TheVariants.{Less, Equal, Greater}
 use Rattle.tree_clock.specs.Lists.{Has}
 use Rattle.mld_ops.specs.declared.cuts.Cut.{Cut}
+use Rattle.mld_ops.specs.declared.pair_lists.PairRow.{PairRow}
 use Rattle.mld_ops.specs.declared.tagged.Tagged.{Tagged}
+use Rattle.mld_ops.specs.PairLists.{row_pair}
 use Rattle.mld_ops.specs.Tagged.{tagged_cmp}
 use Rattle.pair_orders.specs.declared.keys.Numbers.{Numbers}
 use Rattle.graph_index.specs.TermNumbers.{TablesValue, IsNumbered}
@@ -37,6 +39,10 @@ abbrev pub in_order_of : List Tagged → List Tagged
 in_order_of [] = []
 in_order_of (pair ∷ pairs) = with_pair pair (in_order_of pairs)
 
--- numbered pairs without their numbers
-abbrev pub pairs_of : List (Numbers × Tagged) → List Tagged
-pairs_of numbered = map (λ (pair : Numbers × Tagged). pair.1) numbered
+-- the pair of a row that stands with its numbers
+abbrev pub entry_pair : List (List ℕ) → Numbers × PairRow → Tagged
+entry_pair paths entry = row_pair paths entry.1
+
+-- the pairs of such rows
+abbrev pub pairs_of : List (List ℕ) → List (Numbers × PairRow) → List Tagged
+pairs_of paths entries = map (entry_pair paths) entries

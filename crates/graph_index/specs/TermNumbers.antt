@@ -1,6 +1,6 @@
 -- Numbers of pairs: those of their terms and of their paths in two tables, and their ticks. Private calls of `Tables` cite it, and so
 -- does the invariant of `Graph`.
-use Rattle.std.specs.Prelude.{◌≡◌, ℕ, ◌⊎◌, List, nat_eq, Option, None, Some}
+use Rattle.std.specs.Prelude.{◌≡◌, ℕ, ◌⊎◌, List, nat_eq, Option, None, Some, slice_index_or}
 use Rattle.std.specs.Cmp.Lexicographic.{pointwise}
 use Rattle.std.specs.List.{IsDistinct}
 use Rattle.std.specs.Option.{option_map}
@@ -9,7 +9,10 @@ use Rattle.rdf_terms.specs.declared.terms.Term.{Term}
 use Rattle.rdf_terms.specs.declared.terms.Term.TheVariants as terms
 use Rattle.rdf_terms.specs.Order.{term_cmp}
 use Rattle.tree_clock.specs.Lists.{Has}
+use Rattle.rdf_terms.specs.declared.terms.Triple.{Triple}
+use Rattle.mld_ops.specs.declared.pair_lists.PairRow.{PairRow}
 use Rattle.mld_ops.specs.declared.tagged.Tagged.{Tagged}
+use Rattle.mld_ops.specs.PairLists.{path_numbered, row_pair}
 use Rattle.number_tables.specs.TableNumbers.{number_of_term, number_of_path}
 use Rattle.pair_orders.specs.declared.keys.Numbers.{Numbers}
 use Rattle.pair_orders.specs.declared.keys.Places.{Places}
@@ -28,6 +31,11 @@ pub record StandApart (terms : List Term) (paths : List (List ℕ)) : Type 0 whe
 abbrev pub iri_number : TablesValue → List ℕ → Option ℕ
 iri_number tables iri = number_of_term tables.terms (terms.Iri iri)
 
+-- the numbers are those of the triple's terms
+abbrev pub AreTermsOf : TablesValue → Triple → ℕ × ℕ × ℕ → Type 0
+AreTermsOf tables triple numbers =
+    (iri_number tables triple.s ≡ Some numbers.0) × (iri_number tables triple.p ≡ Some numbers.1) × (number_of_term tables.terms triple.o ≡ Some numbers.2)
+
 -- the numbers are those of the pair's terms and of its path, and its tick
 pub record AreNumbersOf (tables : TablesValue) (pair : Tagged) (numbers : Numbers) : Type 0 where
   pub s : iri_number tables pair.triple.s ≡ Some numbers.s
@@ -40,9 +48,18 @@ pub record AreNumbersOf (tables : TablesValue) (pair : Tagged) (numbers : Number
 abbrev pub IsNumbered : TablesValue → Tagged → Type 0
 IsNumbered tables pair = (numbers : Numbers) × AreNumbersOf tables pair numbers
 
--- each of the pairs has its own numbers
-abbrev pub HaveOwnNumbers : TablesValue → List (Numbers × Tagged) → Type 0
-HaveOwnNumbers tables pairs = (pair : Numbers × Tagged) → Has pairs pair → AreNumbersOf tables pair.1 pair.0
+-- a row stands with the numbers of its pair, and names the path by its number
+pub record IsOwnEntry (tables : TablesValue) (entry : Numbers × PairRow) : Type 0 where
+  pub numbers : AreNumbersOf tables (row_pair tables.paths entry.1) entry.0
+  pub path : entry.1.path ≡ entry.0.path
+
+-- each of the rows does
+abbrev pub HaveOwnNumbers : TablesValue → List (Numbers × PairRow) → Type 0
+HaveOwnNumbers tables entries = (entry : Numbers × PairRow) → Has entries entry → IsOwnEntry tables entry
+
+-- what is noted of the paths of a list is their numbers
+abbrev pub AreNoted : TablesValue → List (List ℕ) → List (Option ℕ) → Type 0
+AreNoted tables paths noted = (at number : ℕ) → slice_index_or noted at None ≡ Some number → number_of_path tables.paths (path_numbered paths at) ≡ Some number
 
 -- what had a number has the same
 pub record KeepsNumbers (old new : TablesValue) : Type 0 where

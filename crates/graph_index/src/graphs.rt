@@ -15,16 +15,19 @@ ghost use Rattle.pair_orders.specs.Orders.{binary_digits};
 ghost use Rattle.rdf_terms.specs.declared.terms.Triple.{Triple};
 ghost use Rattle.tree_clock.specs.Lists.{IsAscending};
 
-use crate::copies::{copy_found, dots_found};
-use crate::found::{sort_found, sort_many};
+use crate::copies::into_pairs;
+use crate::found::sort_rows;
+use crate::lent_pairs::LentPairs;
+use crate::list_rows::with_table_numbers;
 use crate::numbered::{gain_all, lose_all, with_numbers};
 use crate::parts::Parts;
 use crate::tables::Tables;
-use mld_ops::{Cut, Tagged, Tags};
+use mld_ops::{Cut, PairList, Tagged, Tags};
 use pair_orders::{NumberedPairs, Numbers, Places, Steps, TermNumbers};
 use rdf_terms::{Iri, Term, Triple};
 use std::alloc::{AllocError, Global};
 use std::marker::{Brand, Model};
+use std::mem::replace;
 use std::sync::ledger::{Blank, Ledger};
 use tree_clock::{Dot, Range};
 
@@ -51,11 +54,9 @@ impl Graph {
     pub fn empty(alloc: Global) -> Graph
         ensures { result.pairs ≡ [] }
     {
-        graph_of(
-            Tables::new(alloc),
-            NumberedPairs::new(alloc),
-            Vec::new(alloc),
-        )
+        Graph {
+            parts: [no_parts(alloc)],
+        }
     }
 
     /// The graph of these pairs, which ascend.
@@ -71,18 +72,50 @@ impl Graph {
         Ok(graph_of(tables, numbered, Vec::new(alloc)))
     }
 
+    /// The graph of these pairs, which ascend. Of the paths that the list names, those that a pair has get numbers, each once.
+    pub fn from_pairs(alloc: Global, pairs: &PairList) -> Result<Graph, AllocError>
+        requires { IsAscending tagged_cmp pairs.now }
+        ensures { IfOk result (λ graph. graph.pairs ≡ pairs.now) }
+    {
+        let (paths, rows) = pairs.parts();
+        let mut tables = Tables::new(alloc);
+        let entries = with_table_numbers(alloc, &mut tables, paths, rows)?;
+        let numbered = NumberedPairs::build(alloc, entries)?;
+        Ok(graph_of(tables, numbered, Vec::new(alloc)))
+    }
+
     /// Its pairs, ascending.
     pub fn to_list(&self, alloc: Global) -> Result<Vec<Tagged>, AllocError>
         ensures pairs { IfOk result (λ list. list.items ≡ self.now.pairs) }
         ensures ascending { IsAscending tagged_cmp self.now.pairs }
     {
         let pairs = self.sorted(alloc)?;
-        copy_found(alloc, &pairs)
+        pairs.to_list(alloc)
+    }
+
+    /// Its pairs, ascending, as a list that names each path once.
+    pub fn to_pairs(&self, alloc: Global) -> Result<PairList, AllocError>
+        ensures pairs { IfOk result (λ pairs. pairs ≡ self.now.pairs) }
+        ensures ascending { IsAscending tagged_cmp self.now.pairs }
+    {
+        let pairs = self.sorted(alloc)?;
+        pairs.to_pairs(alloc)
+    }
+
+    /// Its pairs, ascending, whose triples move to the list. What the list doesn't need is let go before it is made, so at most the
+    /// list stands beside what was in the slots.
+    pub fn into_list(self, alloc: Global) -> Result<Vec<Tagged>, AllocError>
+        ensures pairs { IfOk result (λ list. list.items ≡ self.pairs) }
+        ensures ascending { IsAscending tagged_cmp self.pairs }
+    {
+        let Graph { mut parts } = self;
+        let own = replace(&mut parts[0], no_parts(alloc));
+        list_of(alloc, own)
     }
 
     /// Its pairs, ascending, where they stand.
-    pub fn in_order(&self, alloc: Global) -> Result<Vec<&Tagged>, AllocError>
-        ensures { IfOk result (λ list. map (λ x. x.now) list.items ≡ self.now.pairs) }
+    pub fn in_order(&self, alloc: Global) -> Result<LentPairs<'_>, AllocError>
+        ensures { IfOk result (λ list. list ≡ self.now.pairs) }
     {
         self.sorted(alloc)
     }
@@ -100,21 +133,21 @@ impl Graph {
     }
 
     // Its pairs, sorted where they are lent.
-    fn sorted(&self, alloc: Global) -> Result<Vec<&Tagged>, AllocError>
-        ensures pairs { IfOk result (λ list. map (λ x. x.now) list.items ≡ self.now.pairs) }
+    fn sorted(&self, alloc: Global) -> Result<LentPairs<'_>, AllocError>
+        ensures pairs { IfOk result (λ list. list ≡ self.now.pairs) }
         ensures ascending { IsAscending tagged_cmp self.now.pairs }
     {
-        let mut pairs = self.parts().numbered.lend_all(alloc)?;
-        sort_many(alloc, &mut pairs)?;
-        Ok(pairs)
+        let parts = self.parts();
+        let rows = parts.numbered.lend_all(alloc)?;
+        LentPairs::new(parts.tables.paths(), rows).sorted(alloc)
     }
 
     /// The same pairs in a graph of their own, which keeps no text that none of them has.
     pub fn renewed(&self, alloc: Global) -> Result<Graph, AllocError>
         ensures { IfOk result (λ graph. graph.pairs ≡ self.now.pairs) }
     {
-        let list = self.to_list(alloc)?;
-        Graph::from_list(alloc, list)
+        let pairs = self.to_pairs(alloc)?;
+        Graph::from_pairs(alloc, &pairs)
     }
 
     /// The number of pairs. It takes no memory.
@@ -150,19 +183,21 @@ impl Graph {
         p: Option<&Iri>,
         o: Option<&Term>,
         steps: &mut Steps<L>,
-    ) -> Result<Vec<&Tagged>, AllocError>
+    ) -> Result<LentPairs<'_>, AllocError>
         ensures found { IfOk result (λ found. FindsEach (matches (option_copied s.entry) (option_copied p.entry)
-            (option_copied o.entry)) self.now.pairs (map (λ x. x.now) found.items)) }
-        ensures together { IfOk result (λ found. StandTogether (λ (pair : Tagged). pair.triple) (map (λ x. x.now) found.items)) }
+            (option_copied o.entry)) self.now.pairs found) }
+        ensures together { IfOk result (λ found. StandTogether (λ (pair : Tagged). pair.triple) found) }
         ensures ascending { IsAscending tagged_cmp self.now.pairs }
         ensures bound { steps.new ≤ steps.old + 2 * binary_digits (length self.now.pairs) + length (filter (matches
             (option_copied s.entry) (option_copied p.entry) (option_copied o.entry)) self.now.pairs) + 2 }
     {
         let parts = self.parts();
+        let paths = parts.tables.paths();
         let Some(wanted) = parts.tables.places(s, p, o) else {
-            return Ok(Vec::new(alloc));
+            return Ok(LentPairs::new(paths, Vec::new(alloc)));
         };
-        parts.numbered.search(alloc, &wanted, steps)
+        let rows = parts.numbered.search(alloc, &wanted, steps)?;
+        Ok(LentPairs::new(paths, rows))
     }
 
     /// Whether some pair has the triple. It takes no memory.
@@ -225,7 +260,7 @@ impl Graph {
         ensures { IfOk result (λ list. list.items ≡ filter (is_of triple.now) self.now.pairs) }
     {
         let pairs = self.with_triple(alloc, triple)?;
-        copy_found(alloc, &pairs)
+        pairs.to_list(alloc)
     }
 
     /// The dots of the pairs with the triple, ascending.
@@ -233,29 +268,31 @@ impl Graph {
         ensures { IfOk result (λ dots. dots.items ≡ dots_of triple.now self.now.pairs) }
     {
         let pairs = self.with_triple(alloc, triple)?;
-        dots_found(alloc, &pairs)
+        pairs.dots(alloc)
     }
 
     // The pairs with the triple, ascending.
-    fn with_triple(&self, alloc: Global, triple: &Triple) -> Result<Vec<&Tagged>, AllocError>
-        ensures { IfOk result (λ found. map (λ x. x.now) found.items ≡ filter (is_of triple.now) self.now.pairs) }
+    fn with_triple(&self, alloc: Global, triple: &Triple) -> Result<LentPairs<'_>, AllocError>
+        ensures { IfOk result (λ found. found ≡ filter (is_of triple.now) self.now.pairs) }
     {
-        let mut found = self.found_with::<Brand>(alloc, triple, Blank::new(1))?;
-        sort_found(&mut found);
-        Ok(found)
+        let found = self.found_with::<Brand>(alloc, triple, Blank::new(1))?;
+        Ok(found.in_order())
     }
 
     // The pairs of a range.
-    fn of_dots(&self, alloc: Global, range: &Range) -> Result<Vec<&Tagged>, AllocError>
-        ensures found { IfOk result (λ found. FindsEach (λ pair. is_within_range range.now pair.dot) self.now.pairs
-            (map (λ x. x.now) found.items)) }
+    fn of_dots(&self, alloc: Global, range: &Range) -> Result<LentPairs<'_>, AllocError>
+        ensures found { IfOk result (λ found. FindsEach (λ pair. is_within_range range.now pair.dot) self.now.pairs found) }
         ensures ascending { IsAscending tagged_cmp self.now.pairs }
     {
         let parts = self.parts();
-        match parts.tables.path(&range.path) {
-            Some(path) => parts.numbered.of_dots(alloc, path, range.first, range.last),
-            None => Ok(Vec::new(alloc)),
-        }
+        let paths = parts.tables.paths();
+        let Some(path) = parts.tables.path(&range.path) else {
+            return Ok(LentPairs::new(paths, Vec::new(alloc)));
+        };
+        let rows = parts
+            .numbered
+            .of_dots(alloc, path, range.first, range.last)?;
+        Ok(LentPairs::new(paths, rows))
     }
 
     // The pairs with the triple, with steps that are counted in a ledger of their own.
@@ -264,11 +301,11 @@ impl Graph {
         alloc: Global,
         triple: &Triple,
         blank: Blank,
-    ) -> Result<Vec<&Tagged>, AllocError>
+    ) -> Result<LentPairs<'_>, AllocError>
         requires name { blank.name ≡ L.name }
         requires parts { blank.parts ≡ L.parts }
         requires some { 0 < L.parts }
-        ensures found { IfOk result (λ found. FindsEach (is_of triple.now) self.now.pairs (map (λ x. x.now) found.items)) }
+        ensures found { IfOk result (λ found. FindsEach (is_of triple.now) self.now.pairs found) }
         ensures ascending { IsAscending tagged_cmp self.now.pairs }
     {
         let mut steps = Steps::<L>::new(blank);
@@ -294,9 +331,20 @@ impl Tags for Graph {
     }
 
     fn of_range(&self, alloc: Global, range: &Range) -> Result<Vec<Tagged>, AllocError> {
-        let mut found = self.of_dots(alloc, range)?;
-        sort_found(&mut found);
-        copy_found(alloc, &found)
+        let found = self.of_dots(alloc, range)?;
+        found.in_order().to_list(alloc)
+    }
+}
+
+// What a graph without a pair is made of.
+fn no_parts(alloc: Global) -> Parts
+    ensures own { HaveOwnNumbers result.tables result.numbered.pairs }
+    ensures none { (graph_parts result).pairs ≡ [] }
+{
+    Parts {
+        tables: Tables::new(alloc),
+        numbered: NumberedPairs::new(alloc),
+        given: Vec::new(alloc),
     }
 }
 
@@ -313,11 +361,27 @@ fn graph_of(tables: Tables, numbered: NumberedPairs, given: Vec<Numbers>) -> Gra
     Graph { parts: [parts] }
 }
 
+// The pairs of parts, ascending, whose triples move to the list.
+fn list_of(alloc: Global, parts: Parts) -> Result<Vec<Tagged>, AllocError>
+    requires { HaveOwnNumbers parts.tables parts.numbered.pairs }
+    ensures { IfOk result (λ list. list.items ≡ (graph_parts parts).pairs) }
+{
+    let Parts {
+        tables,
+        numbered,
+        given: _,
+    } = parts;
+    let paths = tables.into_paths();
+    let mut rows = numbered.into_rows(alloc)?;
+    sort_rows(alloc, &paths, &mut rows)?;
+    into_pairs(alloc, &paths, rows)
+}
+
 // Makes room for the pairs that a cut adds, and gives numbers to what has none.
 fn prepare_parts(alloc: Global, parts: &mut Parts, cut: &Cut) -> Result<(), AllocError>
     requires { HaveOwnNumbers parts.old.tables parts.old.numbered.pairs }
     ensures own { HaveOwnNumbers parts.new.tables parts.new.numbered.pairs }
-    ensures pairs { parts.new.numbered.pairs ≡ parts.old.numbered.pairs }
+    ensures pairs { (graph_parts parts.new).pairs ≡ (graph_parts parts.old).pairs }
     ensures ok { OnOk result (Fits cut.now (graph_parts parts.new)) }
     ensures kept { (other : Cut) → Fits other (graph_parts parts.old) → Fits other (graph_parts parts.new) }
 {

@@ -5,7 +5,7 @@ ghost use Rattle.std.specs.Option.{option_copied};
 ghost use Rattle.rdf_terms.specs.declared.terms.Term.TheVariants as terms;
 ghost use Rattle.tree_clock.specs.Lists.{Has};
 ghost use Rattle.mld_ops.specs.declared.tagged.Tagged.{Tagged};
-ghost use Rattle.graph_index.specs.TermNumbers.{iri_number, number_given, StandApart, AreNumbersOf, IsNumbered, KeepsNumbers, ArePlaces, LackNumber};
+ghost use Rattle.graph_index.specs.TermNumbers.{iri_number, number_given, StandApart, AreTermsOf, AreNumbersOf, IsNumbered, KeepsNumbers, ArePlaces, LackNumber};
 ghost use Rattle.number_tables.specs.TableNumbers.{number_of_term, number_of_path};
 
 use mld_ops::Tagged;
@@ -56,6 +56,21 @@ impl Tables {
         self.terms.len()
     }
 
+    /// The paths, by their numbers.
+    pub(crate) fn paths(&self) -> &[Path]
+        ensures { result.now ≡ self.now.paths }
+    {
+        self.paths.paths()
+    }
+
+    /// The paths, by their numbers. All else goes.
+    pub(crate) fn into_paths(self) -> Vec<Path>
+        ensures { result.items ≡ self.paths }
+    {
+        let Tables { terms: _, paths } = self;
+        paths.into_paths()
+    }
+
     /// The term that has a number, where one has.
     pub(crate) fn term_at(&self, number: u32) -> Option<&Term>
         ensures { option_copied result ≡ slice_get self.now.terms number }
@@ -79,8 +94,7 @@ impl Tables {
 
     /// The numbers of a triple's terms, where all have one. It takes no memory.
     pub(crate) fn triple(&self, triple: &Triple) -> Option<(u32, u32, u32)>
-        ensures some { IfSome result (λ numbers. (iri_number self.now triple.now.s ≡ Some numbers.0)
-            × (iri_number self.now triple.now.p ≡ Some numbers.1) × (number_of_term self.now.terms triple.now.o ≡ Some numbers.2)) }
+        ensures some { IfSome result (λ numbers. AreTermsOf self.now triple.now numbers) }
         ensures none { IfNone result (LackNumber self.now (Some triple.now.s) (Some triple.now.p) (Some triple.now.o)) }
     {
         let s = self.iri(&triple.s)?;
@@ -215,18 +229,27 @@ impl Tables {
         ensures grown { KeepsNumbers self.old self.new }
         ensures ok { IfOk result (AreNumbersOf self.new pair.now) }
     {
-        let s = self.give_iri(&pair.triple.s)?;
-        let p = self.give_iri(&pair.triple.p)?;
-        let o = self.give_term(&pair.triple.o)?;
         let path = self.give_path(&pair.dot.path)?;
+        let terms = self.give_terms(&pair.triple)?;
         let tick = pair.dot.tick;
         Ok(Numbers {
-            s,
-            p,
-            o,
+            s: terms.0,
+            p: terms.1,
+            o: terms.2,
             path,
             tick,
         })
+    }
+
+    /// The numbers of a triple's terms, of which each that has none gets one.
+    pub(crate) fn give_terms(&mut self, triple: &Triple) -> Result<(u32, u32, u32), AllocError>
+        ensures grown { KeepsNumbers self.old self.new }
+        ensures ok { IfOk result (AreTermsOf self.new triple.now) }
+    {
+        let s = self.give_iri(&triple.s)?;
+        let p = self.give_iri(&triple.p)?;
+        let o = self.give_term(&triple.o)?;
+        Ok((s, p, o))
     }
 
     // The number of an IRI, which gets one where it has none.
@@ -245,8 +268,8 @@ impl Tables {
         self.terms.give(term)
     }
 
-    // The number of a path, which gets one where it has none.
-    fn give_path(&mut self, path: &Path) -> Result<u32, AllocError>
+    /// The number of a path, which gets one where it has none.
+    pub(crate) fn give_path(&mut self, path: &Path) -> Result<u32, AllocError>
         ensures grown { KeepsNumbers self.old self.new }
         ensures ok { IfOk result (λ number. number_of_path self.new.paths path.now ≡ Some number) }
     {

@@ -30,7 +30,7 @@ head_value head = record {
   domain = head.domain;
   properties = head.props.items;
   path = head.path;
-  base = record { ticks = head.base.ticks; pairs = head.tagged.items };
+  base = record { ticks = head.base.ticks; pairs = head.tagged };
 }
 
 -- a generation and its head

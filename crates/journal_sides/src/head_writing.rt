@@ -19,7 +19,7 @@ use crate::head_reading::HEAD_MARK;
 use crate::heads::Head;
 use crate::record_reading::{ENTRY_KIND, FORK_KIND, OPEN_GATE};
 use mld_bytes::{put_bytes, put_u8, put_u32, put_u64};
-use mld_ops::{Entry, Tagged};
+use mld_ops::{Entry, PairList};
 use op_codec::{append_path, write_clock, write_entry, write_tagged};
 use rdf_terms::Iri;
 use std::alloc::{AllocError, Global};
@@ -82,7 +82,7 @@ fn append_own_path(out: &mut Vec<u8>, path: &Path) -> Result<(), AllocError>
 }
 
 /// Appends the base of a head.
-fn append_base(out: &mut Vec<u8>, base: &Clock, tagged: &[Tagged]) -> Result<(), AllocError>
+fn append_base(out: &mut Vec<u8>, base: &Clock, tagged: &PairList) -> Result<(), AllocError>
     requires good { IsGoodSnapshot (record { ticks = base.now.ticks; pairs = tagged.now }) }
     requires short { IsShortSnapshot (record { ticks = base.now.ticks; pairs = tagged.now }) }
     ensures ok { OnOk result

@@ -1,5 +1,5 @@
 //! What a journal begins with.
-use mld_ops::Tagged;
+use mld_ops::PairList;
 use rdf_terms::Iri;
 use text_rules::Text;
 use tree_clock::{Clock, Path};
@@ -19,5 +19,5 @@ pub struct Head {
     /// The dots that the clone knew.
     pub base: Clock,
     /// The pairs that it had, ascending, each of a dot of the base.
-    pub tagged: Vec<Tagged>,
+    pub tagged: PairList,
 }

@@ -14,3 +14,4 @@ pub mod Walking
 pub mod Equality
 pub mod Computing
 pub mod Keeping
+pub mod PairRows

@@ -19,3 +19,4 @@ pub mod InOrder
 pub mod Properties
 pub mod Present
 pub mod AscendingPlaces
+pub mod PairLists

@@ -31,7 +31,7 @@ pub data MessageValue : Type 0 where
   CarriesGive : GiveValue → MessageValue
 
 abbrev pub snapshot_value : Snapshot → SnapshotValue
-snapshot_value snapshot = record { ticks = snapshot.clock.ticks; pairs = snapshot.tagged.items }
+snapshot_value snapshot = record { ticks = snapshot.clock.ticks; pairs = snapshot.tagged }
 
 abbrev pub give_value : Give → GiveValue
 give_value give = record { id = give.id; path = give.path; snapshot = snapshot_value give.snapshot }

@@ -4,8 +4,7 @@ ghost use Rattle.mld_ops.specs.Messages.{snapshot_value, give_value, message_val
 ghost use Rattle.tree_clock.specs.Clock.{IsClock};
 
 use crate::entries::Entry;
-use crate::pairs::copy_pairs;
-use crate::tagged::Tagged;
+use crate::pair_lists::PairList;
 use std::alloc::{AllocError, Global};
 use std::marker::Model;
 use tree_clock::{Clock, Path};
@@ -17,7 +16,7 @@ pub struct Snapshot {
     /// The known dots.
     pub clock: Clock,
     /// The pairs.
-    pub tagged: Vec<Tagged>,
+    pub tagged: PairList,
 }
 
 impl Snapshot {
@@ -28,7 +27,7 @@ impl Snapshot {
     {
         Ok(Snapshot {
             clock: self.clock.copy_in(alloc)?,
-            tagged: copy_pairs(alloc, &self.tagged)?,
+            tagged: self.tagged.copy_in(alloc)?,
         })
     }
 }
@@ -57,6 +56,46 @@ impl Give {
     }
 }
 
+/// A leaf that is given, in a box, so that a message takes no more room than an entry. Contracts see the `Give`.
+#[derive(Drop)]
+pub struct Given {
+    give: Box<Give>,
+}
+
+impl Model for Given {
+    ghost use Rattle.mld_ops.specs.declared.messages.Give.{Give};
+
+    ghost Value = { Give };
+
+    ghost view = { λ given. given.give.value };
+}
+
+impl Given {
+    /// A leaf that is given, moved into a box.
+    pub fn new(alloc: Global, give: Give) -> Result<Given, AllocError>
+        ensures { IfOk result (λ given. given ≡ give) }
+    {
+        Ok(Given {
+            give: Box::new(alloc, give)?,
+        })
+    }
+
+    /// What the box has.
+    pub fn give(&self) -> &Give
+        ensures { result.now ≡ self.now }
+    {
+        &self.give
+    }
+
+    /// A copy.
+    pub fn copy_in(&self, alloc: Global) -> Result<Given, AllocError>
+        ensures { IfOk result (λ copy. give_value copy ≡ give_value self.now) }
+    {
+        let give = self.give.copy_in(alloc)?;
+        Given::new(alloc, give)
+    }
+}
+
 /// A message.
 #[derive(Drop)]
 pub enum Message {
@@ -69,7 +108,7 @@ pub enum Message {
     /// A question for a leaf, by a new id.
     JoinAsk(Uuid),
     /// A leaf that is given.
-    JoinGive(Give),
+    JoinGive(Given),
 }
 
 impl Message {

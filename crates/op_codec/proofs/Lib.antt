@@ -16,3 +16,4 @@ pub mod MessageTrips
 pub mod ReadWritten
 pub mod Shapes
 pub mod ShortTriples
+pub mod ShortRows

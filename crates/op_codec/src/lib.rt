@@ -24,4 +24,4 @@ pub use messages::{
 };
 pub use pairs::{read_tagged, write_tagged};
 pub use paths::{append_path, read_path};
-pub use short::{is_short_clock, is_short_entry, is_short_list, is_short_message};
+pub use short::{is_short_clock, is_short_entry, is_short_list, is_short_message, is_short_pairs};

@@ -12,10 +12,10 @@ use crate::clocks::{append_clock, read_clock};
 use crate::entries::{append_entry, read_entry};
 use crate::faults::CodecFault;
 use crate::fields::{pass_piece, read_u8};
-use crate::pairs::{append_pairs, read_pairs};
+use crate::pairs::{append_list, read_pairs};
 use crate::paths::{append_path, read_path};
 use mld_bytes::put_u8;
-use mld_ops::{Give, Message, Snapshot};
+use mld_ops::{Give, Given, Message, PairList, Snapshot};
 use std::alloc::{AllocError, Global};
 use uuid::Uuid;
 
@@ -57,7 +57,7 @@ pub fn append_snapshot(out: &mut Vec<u8>, snapshot: &Snapshot) -> Result<(), All
     ensures err { OnErr result (KeepsStart out.old.items out.new.items) }
 {
     append_clock(out, &snapshot.clock)?;
-    append_pairs(out, &snapshot.tagged)
+    append_list(out, &snapshot.tagged)
 }
 
 /// Reads a snapshot, whose clock covers its pairs.
@@ -73,7 +73,8 @@ pub fn read_snapshot(
         (IsRefused (read_snapshot at (drop at input.now))) }
 {
     let (clock, next) = read_clock(alloc, input, at)?;
-    let (tagged, end) = read_pairs(alloc, input, next, Some(&clock))?;
+    let (list, end) = read_pairs(alloc, input, next, Some(&clock))?;
+    let tagged = PairList::from_list(alloc, &clock, list)?;
     Ok((Snapshot { clock, tagged }, end))
 }
 
@@ -128,7 +129,7 @@ fn append_message(out: &mut Vec<u8>, message: &Message) -> Result<(), AllocError
         }
         Message::JoinGive(give) => {
             put_u8(out, GIVE_KIND)?;
-            append_give(out, give)
+            append_give(out, give.give())
         }
     }
 }
@@ -182,7 +183,7 @@ fn read_carried(
         }
         GIVE_KIND => {
             let (give, end) = read_give(alloc, input, next)?;
-            Ok((Message::JoinGive(give), end))
+            Ok((Message::JoinGive(Given::new(alloc, give)?), end))
         }
         _ => Err(CodecFault::NotInGrammar { place }),
     }

@@ -7,6 +7,7 @@ ghost use Rattle.op_codec.specs.CodecLaws.{IsWrittenIn};
 ghost use Rattle.op_codec.specs.StoredLists.{is_above};
 ghost use Rattle.op_codec.specs.PairBytes.{cover_of, is_covered, fits_pairs, pair_bytes, read_pair, pairs_bytes, read_pairs};
 ghost use Rattle.op_codec.specs.Stored.{IsShortTriple, AreShortPairs, HasPairShape, ArePairs};
+ghost use Rattle.mld_ops.specs.PairLists.{rows_pairs};
 
 use crate::clocks::{append_dot, read_dot};
 use crate::faults::CodecFault;
@@ -14,22 +15,24 @@ use crate::fields::read_u32;
 use crate::lists::{is_above, push_item};
 use crate::triples::{append_stored, read_stored};
 use mld_bytes::put_u32;
-use mld_ops::Tagged;
+use mld_ops::{PairList, PairRow, Tagged, row_ref};
+use rdf_terms::Triple;
 use std::alloc::{AllocError, Global};
-use tree_clock::{Clock, Dot};
+use tree_clock::{Clock, Dot, Path};
 
 /// Appends a pair.
-fn append_pair(out: &mut Vec<u8>, pair: &Tagged) -> Result<(), AllocError>
-    requires { IsShortTriple pair.now.triple }
-    ensures ok { OnOk result (out.new.items ≡ out.old.items ++ pair_bytes pair.now) }
+fn append_pair(out: &mut Vec<u8>, triple: &Triple, dot: &Dot) -> Result<(), AllocError>
+    requires { IsShortTriple triple.now }
+    ensures ok { OnOk result
+        (out.new.items ≡ out.old.items ++ pair_bytes (record { triple = triple.now; dot = dot.now })) }
     ensures err { OnErr result (KeepsStart out.old.items out.new.items) }
-    ensures shape { OnOk result (HasPairShape pair.now) }
+    ensures shape { OnOk result (HasPairShape (record { triple = triple.now; dot = dot.now })) }
 {
-    append_stored(out, &pair.triple)?;
-    append_dot(out, &pair.dot)
+    append_stored(out, triple)?;
+    append_dot(out, dot)
 }
 
-/// Appends a list of pairs.
+/// Appends a plain list of pairs.
 pub(crate) fn append_pairs(out: &mut Vec<u8>, pairs: &[Tagged]) -> Result<(), AllocError>
     requires { AreShortPairs pairs.now }
     ensures ok { OnOk result (out.new.items ≡ out.old.items ++ pairs_bytes pairs.now) }
@@ -38,22 +41,48 @@ pub(crate) fn append_pairs(out: &mut Vec<u8>, pairs: &[Tagged]) -> Result<(), Al
 {
     put_u32(out, pairs.len() as u32)?;
     for pair in pairs {
-        append_pair(out, pair)?;
+        append_pair(out, &pair.triple, &pair.dot)?;
     }
     Ok(())
+}
+
+/// Appends the pairs of rows.
+fn append_rows(out: &mut Vec<u8>, paths: &[Path], rows: &[PairRow]) -> Result<(), AllocError>
+    requires { AreShortPairs (rows_pairs paths.now rows.now) }
+    ensures ok { OnOk result (out.new.items ≡ out.old.items ++ pairs_bytes (rows_pairs paths.now rows.now)) }
+    ensures err { OnErr result (KeepsStart out.old.items out.new.items) }
+    ensures shape { OnOk result (AllByRecursion HasPairShape (rows_pairs paths.now rows.now)) }
+{
+    put_u32(out, rows.len() as u32)?;
+    for row in rows {
+        let pair = row_ref(paths, row);
+        append_pair(out, pair.triple, &pair.dot)?;
+    }
+    Ok(())
+}
+
+/// Appends a list of pairs.
+pub(crate) fn append_list(out: &mut Vec<u8>, list: &PairList) -> Result<(), AllocError>
+    requires { AreShortPairs list.now }
+    ensures ok { OnOk result (out.new.items ≡ out.old.items ++ pairs_bytes list.now) }
+    ensures err { OnErr result (KeepsStart out.old.items out.new.items) }
+    ensures shape { OnOk result (AllByRecursion HasPairShape list.now) }
+{
+    let (paths, rows) = list.parts();
+    append_rows(out, paths, rows)
 }
 
 /// Appends a list of pairs in bytes. Where memory runs out the buffer is as before.
 ///
 /// The list has fewer than 2^32 pairs, and the written form of each triple fewer than 2^32 bytes.
-pub fn write_tagged(out: &mut Vec<u8>, pairs: &[Tagged]) -> Result<(), AllocError>
-    requires { AreShortPairs pairs.now }
-    ensures ok { OnOk result (out.new.items ≡ out.old.items ++ pairs_bytes pairs.now) }
+pub fn write_tagged(out: &mut Vec<u8>, list: &PairList) -> Result<(), AllocError>
+    requires { AreShortPairs list.now }
+    ensures ok { OnOk result (out.new.items ≡ out.old.items ++ pairs_bytes list.now) }
     ensures err { OnErr result (out.new.items ≡ out.old.items) }
-    ensures shape { OnOk result (AllByRecursion HasPairShape pairs.now) }
+    ensures shape { OnOk result (AllByRecursion HasPairShape list.now) }
 {
     let start = out.len();
-    let written = append_pairs(out, pairs);
+    let written = append_list(out, list);
     if written.is_err() {
         out.truncate(start);
     }

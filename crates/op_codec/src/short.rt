@@ -1,7 +1,7 @@
 //! Tests of what the writers ask for: that counts and lengths have four bytes. They count, and take no memory.
 ghost use Rattle.std.specs.Prelude.{◌≡◌, ◌+◌, ◌≤◌, ◌^◌, ◌↔◌, length, IsTrue};
 ghost use Rattle.mld_ops.specs.Messages.{snapshot_value, message_value};
-ghost use Rattle.mld_ops.specs.declared.tagged.Tagged.{Tagged};
+ghost use Rattle.mld_ops.specs.PairLists.{rows_pairs};
 ghost use Rattle.op_codec.specs.Stored.{IsShort, IsShortTriple, AreShortPairs, AreShortInserts, IsShortEntry, IsShortSnapshot, IsShortMessage};
 ghost use Rattle.rdf_terms.specs.Grammar.{IsTripleWithin};
 ghost use Rattle.rdf_terms.specs.Literal.{lexical_form, lexical_limit};
@@ -9,9 +9,9 @@ ghost use Rattle.rdf_terms.specs.declared.terms.Term.TheVariants as terms;
 ghost use Rattle.rdf_terms.specs.declared.terms.Triple.{Triple};
 ghost use Rattle.text_rules.specs.Escaped.{escaped, escaped_byte};
 
-use mld_ops::{Entry, Message, Snapshot, Tagged};
+use mld_ops::{Entry, Message, PairList, PairRow, Snapshot, Tagged, row_ref};
 use rdf_terms::{Literal, Term, Triple};
-use tree_clock::Clock;
+use tree_clock::{Clock, Path};
 
 /// One more than the greatest number of four bytes.
 const COUNT_LIMIT: usize = 4_294_967_296;
@@ -99,6 +99,30 @@ pub fn is_short_list(pairs: &[Tagged]) -> bool
     true
 }
 
+/// Whether there are fewer than 2^32 rows, and the written form of each triple has fewer than 2^32 bytes.
+fn are_short_rows(paths: &[Path], rows: &[PairRow]) -> bool
+    ensures { IsTrue result ↔ AreShortPairs (rows_pairs paths.now rows.now) }
+{
+    if rows.len() >= COUNT_LIMIT {
+        return false;
+    }
+    for row in rows {
+        if !is_short_triple(row_ref(paths, row).triple) {
+            return false;
+        }
+    }
+    true
+}
+
+/// Whether a list has fewer than 2^32 pairs, and the written form of each triple fewer than 2^32 bytes, as `is_short_list`
+/// tells of a plain one.
+pub fn is_short_pairs(pairs: &PairList) -> bool
+    ensures { IsTrue result ↔ AreShortPairs pairs.now }
+{
+    let (paths, rows) = pairs.parts();
+    are_short_rows(paths, rows)
+}
+
 /// Whether a list has fewer than 2^32 inserts, and the written form of each triple fewer than 2^32 bytes.
 fn are_short_inserts(inserts: &[(Triple, u32)]) -> bool
     ensures { IsTrue result ↔ AreShortInserts inserts.now }
@@ -127,7 +151,7 @@ pub fn is_short_entry(entry: &Entry) -> bool
 fn is_short_snapshot(snapshot: &Snapshot) -> bool
     ensures { IsTrue result ↔ IsShortSnapshot (snapshot_value snapshot.now) }
 {
-    is_short_clock(&snapshot.clock) && is_short_list(&snapshot.tagged)
+    is_short_clock(&snapshot.clock) && is_short_pairs(&snapshot.tagged)
 }
 
 /// Whether the lists of a message are such lists.
@@ -139,6 +163,6 @@ pub fn is_short_message(message: &Message) -> bool
         Message::Want(clock) => is_short_clock(clock),
         Message::Snapshot(snapshot) => is_short_snapshot(snapshot),
         Message::JoinAsk(_) => true,
-        Message::JoinGive(give) => is_short_snapshot(&give.snapshot),
+        Message::JoinGive(give) => is_short_snapshot(&give.give().snapshot),
     }
 }

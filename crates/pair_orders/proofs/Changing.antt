@@ -2,7 +2,7 @@
 use Rattle.std.proofs.Common.{◌≡◌, ◌∙◌, ◌+◌, ◌≤◌, ◌<◌, ℕ, [], List, ◌∷◌, ◌⊎◌, ◌↔◌, Bool, true, false, Option, None, Some, IfSome, IfNone, IsTrue, length, map, vec_len, vec_capacity, refl, sym, ap, subst, inl, inr, arith}
 use Rattle.std.proofs.lemmas.Bool.{false≢true, cases_lt}
 use Rattle.std.specs.Option.{is_some}
-use Rattle.mld_ops.specs.declared.tagged.Tagged.{Tagged}
+use Rattle.mld_ops.specs.declared.pair_lists.PairRow.{PairRow}
 use Rattle.tree_clock.specs.Lists.{Has}
 use Rattle.pair_orders.specs.Keys.{slotted_key, key_numbers, slot_at}
 use Rattle.pair_orders.specs.PairEntries.{StandOnce, HasNumbers, HasTerms, PairsValue, entries_of}
@@ -39,7 +39,7 @@ prepared_is slots new lists wider is are same made room lists_are e =
     }
 
 -- a pair comes
-pub put_is : (slots new : Slots) (lists more : Lists) (numbers : Numbers) (pair : Tagged) (slot : ℕ) (key : Key) → IsPairs slots lists → AreSlots new → slot_at slots.pairs.items slot ≡ None
+pub put_is : (slots new : Slots) (lists more : Lists) (numbers : Numbers) (pair : PairRow) (slot : ℕ) (key : Key) → IsPairs slots lists → AreSlots new → slot_at slots.pairs.items slot ≡ None
     → PutsAt slots.pairs.items new.pairs.items slot (Some pair) → vec_len new.pairs ≡ vec_len slots.pairs → vec_len slots.free ≡ vec_len new.free + 1 → vec_capacity slots.free ≤ vec_capacity new.free
     → ((other : ℕ) → ¬ Has (dots_in lists) (slotted_key numbers other)) → AreLists more → ((other : Key) → Has (dots_in more) other ↔ (Has (dots_in lists) other ⊎ (other ≡ key))) → key ≡ slotted_key numbers slot → IsPairs new more
 put_is slots new lists more numbers pair slot key is are empty put pairs len capacity none lists_are members e =
@@ -55,9 +55,9 @@ put_is slots new lists more numbers pair slot key is are empty put pairs len cap
       free_room = omega arith;
     }
 
-pub put_entries : (slots new : List (Option Tagged)) (keys more : List Key) (numbers : Numbers) (pair : Tagged) (slot : ℕ) (key : Key) → AreHeld slots keys → slot_at slots slot ≡ None → PutsAt slots new slot (Some pair)
+pub put_entries : (slots new : List (Option PairRow)) (keys more : List Key) (numbers : Numbers) (pair : PairRow) (slot : ℕ) (key : Key) → AreHeld slots keys → slot_at slots slot ≡ None → PutsAt slots new slot (Some pair)
     → ((other : ℕ) → ¬ Has keys (slotted_key numbers other)) → ((other : Key) → Has more other ↔ (Has keys other ⊎ (other ≡ key))) → key ≡ slotted_key numbers slot
-    → (entry : Numbers × Tagged) → Has (entries_of new more) entry ↔ (Has (entries_of slots keys) entry ⊎ (entry ≡ (numbers, pair)))
+    → (entry : Numbers × PairRow) → Has (entries_of new more) entry ↔ (Has (entries_of slots keys) entry ⊎ (entry ≡ (numbers, pair)))
 put_entries slots new keys more numbers pair slot key held empty put none members e =
     inserted_entries slots new keys more numbers pair slot held put empty none (subst (λ (k : Key). (other : Key) → Has more other ↔ (Has keys other ⊎ (other ≡ k))) e members)
 
@@ -98,36 +98,36 @@ some_used slots lists key is member = let p = positive (dots_in lists) member in
 -- ---- whether a pair is there
 
 -- a pair with the numbers isn't put in again
-pub inserted_none : (slots : List (Option Tagged)) (keys : List Key) (numbers : Numbers) (pair : Tagged) → AreHeld slots keys → ((slot : ℕ) × Has keys (slotted_key numbers slot))
-    → (entry : Numbers × Tagged) → Has (entries_of slots keys) entry ↔ (Has (entries_of slots keys) entry ⊎ ((entry ≡ (numbers, pair)) × ¬ HasNumbers (entries_of slots keys) numbers))
+pub inserted_none : (slots : List (Option PairRow)) (keys : List Key) (numbers : Numbers) (pair : PairRow) → AreHeld slots keys → ((slot : ℕ) × Has keys (slotted_key numbers slot))
+    → (entry : Numbers × PairRow) → Has (entries_of slots keys) entry ↔ (Has (entries_of slots keys) entry ⊎ ((entry ≡ (numbers, pair)) × ¬ HasNumbers (entries_of slots keys) numbers))
 inserted_none slots keys numbers pair held there entry = (
   λ h. inl h,
   λ h. elim h [ inl k ↦ k | inr k ↦ absurd (k.1 ((has_numbers slots keys numbers held).1 there)) ],
 )
 
-pub inserted_one : (slots : List (Option Tagged)) (keys : List Key) (numbers : Numbers) (pair : Tagged) (after : List (Numbers × Tagged)) → AreHeld slots keys → ((slot : ℕ) → ¬ Has keys (slotted_key numbers slot))
-    → ((entry : Numbers × Tagged) → Has after entry ↔ (Has (entries_of slots keys) entry ⊎ (entry ≡ (numbers, pair))))
-    → (entry : Numbers × Tagged) → Has after entry ↔ (Has (entries_of slots keys) entry ⊎ ((entry ≡ (numbers, pair)) × ¬ HasNumbers (entries_of slots keys) numbers))
+pub inserted_one : (slots : List (Option PairRow)) (keys : List Key) (numbers : Numbers) (pair : PairRow) (after : List (Numbers × PairRow)) → AreHeld slots keys → ((slot : ℕ) → ¬ Has keys (slotted_key numbers slot))
+    → ((entry : Numbers × PairRow) → Has after entry ↔ (Has (entries_of slots keys) entry ⊎ (entry ≡ (numbers, pair))))
+    → (entry : Numbers × PairRow) → Has after entry ↔ (Has (entries_of slots keys) entry ⊎ ((entry ≡ (numbers, pair)) × ¬ HasNumbers (entries_of slots keys) numbers))
 inserted_one slots keys numbers pair after held none members entry = (
   λ h. elim ((members entry).0 h) [ inl k ↦ inl k | inr e ↦ inr (e, λ k. let s = (has_numbers slots keys numbers held).0 k in none s.0 s.1) ],
   λ h. (members entry).1 (elim h [ inl k ↦ inl k | inr k ↦ inr k.0 ]),
 )
 
 -- where no pair has the numbers, none is to go
-pub removed_none : (slots : List (Option Tagged)) (keys : List Key) (numbers : Numbers) → AreHeld slots keys → ((slot : ℕ) → ¬ Has keys (slotted_key numbers slot))
-    → (entry : Numbers × Tagged) → Has (entries_of slots keys) entry ↔ (Has (entries_of slots keys) entry × ¬ (entry.0 ≡ numbers))
+pub removed_none : (slots : List (Option PairRow)) (keys : List Key) (numbers : Numbers) → AreHeld slots keys → ((slot : ℕ) → ¬ Has keys (slotted_key numbers slot))
+    → (entry : Numbers × PairRow) → Has (entries_of slots keys) entry ↔ (Has (entries_of slots keys) entry × ¬ (entry.0 ≡ numbers))
 removed_none slots keys numbers held none entry = (
   λ h. (h, λ e. let s = (has_numbers slots keys numbers held).0 (entry.1, subst (λ (n : Numbers). Has (entries_of slots keys) (n, entry.1)) e h) in none s.0 s.1),
   λ h. h.0,
 )
 
 -- what was found tells
-pub found_tells : (slots : List (Option Tagged)) (keys : List Key) (numbers : Numbers) (found : Option ℕ) (answer : Bool) → AreHeld slots keys → IfSome found (λ slot. Has keys (slotted_key numbers slot))
+pub found_tells : (slots : List (Option PairRow)) (keys : List Key) (numbers : Numbers) (found : Option ℕ) (answer : Bool) → AreHeld slots keys → IfSome found (λ slot. Has keys (slotted_key numbers slot))
     → IfNone found ((slot : ℕ) → ¬ Has keys (slotted_key numbers slot)) → answer ≡ is_some found → IsTrue answer ↔ HasNumbers (entries_of slots keys) numbers
 found_tells slots keys numbers None answer held some none e = (λ h. absurd (false≢true (sym e ∙ h)), λ h. let s = (has_numbers slots keys numbers held).0 h in absurd (none s.0 s.1))
 found_tells slots keys numbers (Some slot) answer held some none e = (λ h. (has_numbers slots keys numbers held).1 (slot, some), λ h. e)
 
-pub terms_tell : (slots : List (Option Tagged)) (keys : List Key) (s p o : ℕ) (answer : Bool) → AreHeld slots keys
+pub terms_tell : (slots : List (Option PairRow)) (keys : List Key) (s p o : ℕ) (answer : Bool) → AreHeld slots keys
     → (IsTrue answer ↔ ((key : Key) × Has keys key × (key.s ≡ s) × (key.p ≡ p) × (key.o ≡ o))) → IsTrue answer ↔ HasTerms (entries_of slots keys) s p o
 terms_tell slots keys s p o answer held tells = (
   λ h.

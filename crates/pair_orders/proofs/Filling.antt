@@ -2,7 +2,7 @@
 use Rattle.std.proofs.Common.{◌≡◌, ◌∙◌, ◌+◌, ◌≤◌, ℕ, [], List, ◌∷◌, ◌++◌, ◌⊎◌, ◌↔◌, Option, None, Some, length, map, vec_len, vec_capacity, refl, sym, ap, subst, inl, inr, arith}
 use Rattle.std.proofs.lemmas.List.{map-append}
 use Rattle.chunked_list.specs.Room.{ChunkedValue}
-use Rattle.mld_ops.specs.declared.tagged.Tagged.{Tagged}
+use Rattle.mld_ops.specs.declared.pair_lists.PairRow.{PairRow}
 use Rattle.mld_ops.proofs.AscendingLaws.{has_append, has_left, has_right}
 use Rattle.tree_clock.specs.Lists.{Has}
 use Rattle.pair_orders.specs.Keys.{slotted_key, key_numbers, keys_by, slot_at}
@@ -25,7 +25,7 @@ behind xs x y = (
   λ h. elim h [ inl k ↦ has_left xs (x ∷ []) y k | inr e ↦ has_right xs (x ∷ []) y (inl (sym e)) ],
 )
 
-module _ (slots new : Slots) (keys more : List Key) (numbers : Numbers) (pair : Tagged) (slot : ℕ) (key : Key) (filled : AreFilled slots keys) (none : (other : ℕ) → ¬ Has keys (slotted_key numbers other))
+module _ (slots new : Slots) (keys more : List Key) (numbers : Numbers) (pair : PairRow) (slot : ℕ) (key : Key) (filled : AreFilled slots keys) (none : (other : ℕ) → ¬ Has keys (slotted_key numbers other))
     (empty : slot_at slots.pairs.items slot ≡ None) (put : PutsAt slots.pairs.items new.pairs.items slot (Some pair)) (e : key ≡ slotted_key numbers slot) (m : more ≡ keys ++ key ∷ []) where
   members : (other : Key) → Has more other ↔ (Has keys other ⊎ (other ≡ key))
   members other = subst (λ (ks : List Key). Has ks other ↔ (Has keys other ⊎ (other ≡ key))) (sym m) (behind keys key other)
@@ -43,7 +43,7 @@ module _ (slots new : Slots) (keys more : List Key) (numbers : Numbers) (pair : 
         free_room = omega arith;
       }
 
-  pub entries_more : (entry : Numbers × Tagged) → Has (entries_of new.pairs.items more) entry ↔ (Has (entries_of slots.pairs.items keys) entry ⊎ (entry ≡ (numbers, pair)))
+  pub entries_more : (entry : Numbers × PairRow) → Has (entries_of new.pairs.items more) entry ↔ (Has (entries_of slots.pairs.items keys) entry ⊎ (entry ≡ (numbers, pair)))
   entries_more = put_entries slots.pairs.items new.pairs.items keys more numbers pair slot key filled.held empty put none members e
 
   pub numbers_more : (other : Key) → Has more other → Has keys other ⊎ (key_numbers other ≡ numbers)
@@ -51,12 +51,12 @@ module _ (slots new : Slots) (keys more : List Key) (numbers : Numbers) (pair : 
 
 -- ---- what is left of the entries, and what was put in
 
-pub record IsFilling (all rest : List (Numbers × Tagged)) (slots : List (Option Tagged)) (keys : List Key) : Type 0 where
-  pub members : (entry : Numbers × Tagged) → Has all entry ↔ (Has (entries_of slots keys) entry ⊎ Has rest entry)
-  pub apart : (entry : Numbers × Tagged) → Has rest entry → (slot : ℕ) → ¬ Has keys (slotted_key entry.0 slot)
+pub record IsFilling (all rest : List (Numbers × PairRow)) (slots : List (Option PairRow)) (keys : List Key) : Type 0 where
+  pub members : (entry : Numbers × PairRow) → Has all entry ↔ (Has (entries_of slots keys) entry ⊎ Has rest entry)
+  pub apart : (entry : Numbers × PairRow) → Has rest entry → (slot : ℕ) → ¬ Has keys (slotted_key entry.0 slot)
   pub once : StandOnce (map (λ entry. entry.0) rest)
 
-pub filling_begun : (all : List (Numbers × Tagged)) (slots : List (Option Tagged)) (keys : List Key) → keys ≡ [] → StandOnce (map (λ entry. entry.0) all) → IsFilling all all slots keys
+pub filling_begun : (all : List (Numbers × PairRow)) (slots : List (Option PairRow)) (keys : List Key) → keys ≡ [] → StandOnce (map (λ entry. entry.0) all) → IsFilling all all slots keys
 filling_begun all slots keys e once = subst (λ (ks : List Key). IsFilling all all slots ks) (sym e) (record {
   members = λ entry. (λ h. inr h, λ h. elim h [ inl k ↦ absurd k | inr k ↦ k ]);
   apart = λ entry h slot k. k;
@@ -68,19 +68,19 @@ has_first f [] x h = absurd h
 has_first f (y ∷ xs) x (inl e) = inl (ap f e)
 has_first f (y ∷ xs) x (inr h) = inr (has_first f xs x h)
 
-module _ (all rest less : List (Numbers × Tagged)) (entry : Numbers × Tagged) (slots new : List (Option Tagged)) (keys more : List Key) (filling : IsFilling all rest slots keys) (e : rest ≡ less ++ entry ∷ []) where
+module _ (all rest less : List (Numbers × PairRow)) (entry : Numbers × PairRow) (slots new : List (Option PairRow)) (keys more : List Key) (filling : IsFilling all rest slots keys) (e : rest ≡ less ++ entry ∷ []) where
   pub last_apart : (slot : ℕ) → ¬ Has keys (slotted_key entry.0 slot)
-  last_apart = filling.apart entry (subst (λ (es : List (Numbers × Tagged)). Has es entry) (sym e) ((behind less entry entry).1 (inr refl)))
+  last_apart = filling.apart entry (subst (λ (es : List (Numbers × PairRow)). Has es entry) (sym e) ((behind less entry entry).1 (inr refl)))
 
   once_both : StandOnce (map (λ entry. entry.0) less ++ entry.0 ∷ [])
   once_both =
       subst (λ (ns : List Numbers). StandOnce ns) (map-append (λ entry. entry.0) less (entry ∷ []))
-      (subst (λ (es : List (Numbers × Tagged)). StandOnce (map (λ entry. entry.0) es)) e filling.once)
+      (subst (λ (es : List (Numbers × PairRow)). StandOnce (map (λ entry. entry.0) es)) e filling.once)
 
-  in_rest : (other : Numbers × Tagged) → Has rest other ↔ (Has less other ⊎ (other ≡ entry))
-  in_rest other = subst (λ (es : List (Numbers × Tagged)). Has es other ↔ (Has less other ⊎ (other ≡ entry))) (sym e) (behind less entry other)
+  in_rest : (other : Numbers × PairRow) → Has rest other ↔ (Has less other ⊎ (other ≡ entry))
+  in_rest other = subst (λ (es : List (Numbers × PairRow)). Has es other ↔ (Has less other ⊎ (other ≡ entry))) (sym e) (behind less entry other)
 
-  pub filling_more : ((other : Numbers × Tagged) → Has (entries_of new more) other ↔ (Has (entries_of slots keys) other ⊎ (other ≡ entry)))
+  pub filling_more : ((other : Numbers × PairRow) → Has (entries_of new more) other ↔ (Has (entries_of slots keys) other ⊎ (other ≡ entry)))
       → ((other : Key) → Has more other → Has keys other ⊎ (key_numbers other ≡ entry.0)) → IsFilling all less new more
   filling_more added numbers = record {
     members = λ other. (
@@ -100,11 +100,11 @@ module _ (all rest less : List (Numbers × Tagged)) (entry : Numbers × Tagged) 
     once = once_front (map (λ entry. entry.0) less) entry.0 once_both;
   }
 
-pub filling_ended : (all rest : List (Numbers × Tagged)) (slots : List (Option Tagged)) (keys : List Key) → IsFilling all rest slots keys → rest ≡ []
-    → (entry : Numbers × Tagged) → Has (entries_of slots keys) entry ↔ Has all entry
+pub filling_ended : (all rest : List (Numbers × PairRow)) (slots : List (Option PairRow)) (keys : List Key) → IsFilling all rest slots keys → rest ≡ []
+    → (entry : Numbers × PairRow) → Has (entries_of slots keys) entry ↔ Has all entry
 filling_ended all rest slots keys filling e entry = (
   λ h. (filling.members entry).1 (inl h),
-  λ h. elim ((filling.members entry).0 h) [ inl k ↦ k | inr k ↦ absurd (subst (λ (es : List (Numbers × Tagged)). Has es entry) e k) ],
+  λ h. elim ((filling.members entry).0 h) [ inl k ↦ k | inr k ↦ absurd (subst (λ (es : List (Numbers × PairRow)). Has es entry) e k) ],
 )
 
 pub nothing_left : {X : Type 0} (xs : List X) → length xs ≡ 0 → xs ≡ []
@@ -153,8 +153,8 @@ built_is slots lists keys filled are same =
       free_room = filled.free_room;
     }
 
-pub built_members : (slots : Slots) (lists : Lists) (keys : List Key) (all : List (Numbers × Tagged)) → ((key : Key) → Has (dots_in lists) key ↔ Has keys key)
-    → ((entry : Numbers × Tagged) → Has (entries_of slots.pairs.items keys) entry ↔ Has all entry) → (entry : Numbers × Tagged) → Has (entries_of slots.pairs.items (dots_in lists)) entry ↔ Has all entry
+pub built_members : (slots : Slots) (lists : Lists) (keys : List Key) (all : List (Numbers × PairRow)) → ((key : Key) → Has (dots_in lists) key ↔ Has keys key)
+    → ((entry : Numbers × PairRow) → Has (entries_of slots.pairs.items keys) entry ↔ Has all entry) → (entry : Numbers × PairRow) → Has (entries_of slots.pairs.items (dots_in lists)) entry ↔ Has all entry
 built_members slots lists keys all same members entry =
     let s = same_entries slots.pairs.items (dots_in lists) keys same entry in
     (λ h. (members entry).0 (s.0 h), λ h. s.1 ((members entry).1 h))

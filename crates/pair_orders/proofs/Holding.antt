@@ -3,7 +3,7 @@ use Rattle.std.proofs.Common.{◌≡◌, ◌∙◌, ◌+◌, ℕ, List, [], ◌�
 use Rattle.std.proofs.lemmas.Bool.{cases_Bool, false≢true}
 use Rattle.std.specs.List.{filter, cons_option}
 use Rattle.std.specs.Option.{option_map}
-use Rattle.mld_ops.specs.declared.tagged.Tagged.{Tagged}
+use Rattle.mld_ops.specs.declared.pair_lists.PairRow.{PairRow}
 use Rattle.tree_clock.specs.Lists.{Has}
 use Rattle.pair_orders.specs.Keys.{slotted_key, key_numbers, slot_at}
 use Rattle.pair_orders.specs.PairEntries.{StandOnce, HasNumbers, keyed_entry, entries_of}
@@ -43,21 +43,21 @@ has_filter_map f (x ∷ xs) y = (
 -- ---- entries
 
 -- a key of the list stands for the entry
-pub record StandsFor (slots : List (Option Tagged)) (keys : List Key) (entry : Numbers × Tagged) : Type 0 where
+pub record StandsFor (slots : List (Option PairRow)) (keys : List Key) (entry : Numbers × PairRow) : Type 0 where
   pub key : Key
   pub member : Has keys key
   pub pair_is : slot_at slots key.slot ≡ Some entry.1
   pub numbers_are : key_numbers key ≡ entry.0
 
-entry_is : (o : Option Tagged) (numbers : Numbers) (entry : Numbers × Tagged) → option_map (λ pair. (numbers, pair)) o ≡ Some entry → (o ≡ Some entry.1) × (numbers ≡ entry.0)
+entry_is : (o : Option PairRow) (numbers : Numbers) (entry : Numbers × PairRow) → option_map (λ pair. (numbers, pair)) o ≡ Some entry → (o ≡ Some entry.1) × (numbers ≡ entry.0)
 entry_is None numbers entry e = cc
 entry_is (Some pair) numbers entry e = let q : (numbers, pair) ≡ entry = cc in (ap (λ w. Some w.1) q, ap (λ w. w.0) q)
 
-is_entry : (o : Option Tagged) (numbers : Numbers) (entry : Numbers × Tagged) → o ≡ Some entry.1 → numbers ≡ entry.0 → option_map (λ pair. (numbers, pair)) o ≡ Some entry
+is_entry : (o : Option PairRow) (numbers : Numbers) (entry : Numbers × PairRow) → o ≡ Some entry.1 → numbers ≡ entry.0 → option_map (λ pair. (numbers, pair)) o ≡ Some entry
 is_entry None numbers entry e q = cc
 is_entry (Some pair) numbers entry e q = let p : pair ≡ entry.1 = cc in λ i. Some (q i, p i)
 
-pub has_entry : (slots : List (Option Tagged)) (keys : List Key) (entry : Numbers × Tagged) → Has (entries_of slots keys) entry ↔ StandsFor slots keys entry
+pub has_entry : (slots : List (Option PairRow)) (keys : List Key) (entry : Numbers × PairRow) → Has (entries_of slots keys) entry ↔ StandsFor slots keys entry
 has_entry slots keys entry =
     let f = has_filter_map (keyed_entry slots) keys entry in (
       λ h. let k = f.0 h in let e = entry_is (slot_at slots k.0.slot) (key_numbers k.0) entry k.2 in record { key = k.0; member = k.1; pair_is = e.0; numbers_are = e.1 },
@@ -73,7 +73,7 @@ some_of None h = absurd (false≢true h)
 some_of (Some value) h = (value, refl)
 
 -- some pair has the numbers exactly where some key has them
-pub has_numbers : (slots : List (Option Tagged)) (keys : List Key) (numbers : Numbers) → AreHeld slots keys → HasNumbers (entries_of slots keys) numbers ↔ ((slot : ℕ) × Has keys (slotted_key numbers slot))
+pub has_numbers : (slots : List (Option PairRow)) (keys : List Key) (numbers : Numbers) → AreHeld slots keys → HasNumbers (entries_of slots keys) numbers ↔ ((slot : ℕ) × Has keys (slotted_key numbers slot))
 has_numbers slots keys numbers held = (
   λ h. let s = (has_entry slots keys (numbers, h.0)).0 h.1 in (s.key.slot, with_numbers keys s.key numbers s.member s.numbers_are),
   λ h. let o = some_of (slot_at slots h.0) (held.occupied (slotted_key numbers h.0) h.1) in
@@ -81,7 +81,7 @@ has_numbers slots keys numbers held = (
 )
 
 -- the same keys stand for the same entries
-pub same_entries : (slots : List (Option Tagged)) (keys others : List Key) → ((key : Key) → Has keys key ↔ Has others key) → (entry : Numbers × Tagged) → Has (entries_of slots keys) entry ↔ Has (entries_of slots others) entry
+pub same_entries : (slots : List (Option PairRow)) (keys others : List Key) → ((key : Key) → Has keys key ↔ Has others key) → (entry : Numbers × PairRow) → Has (entries_of slots keys) entry ↔ Has (entries_of slots others) entry
 same_entries slots keys others same entry = (
   λ h. let s = (has_entry slots keys entry).0 h in
       (has_entry slots others entry).1 (record { key = s.key; member = (same s.key).0 s.member; pair_is = s.pair_is; numbers_are = s.numbers_are }),
@@ -90,13 +90,13 @@ same_entries slots keys others same entry = (
 )
 
 -- slots that show the same have the same entries
-pub entries_kept : (slots new : List (Option Tagged)) → ((slot : ℕ) → slot_at new slot ≡ slot_at slots slot) → (keys : List Key) → entries_of new keys ≡ entries_of slots keys
+pub entries_kept : (slots new : List (Option PairRow)) → ((slot : ℕ) → slot_at new slot ≡ slot_at slots slot) → (keys : List Key) → entries_of new keys ≡ entries_of slots keys
 entries_kept slots new same [] = refl
 entries_kept slots new same (key ∷ keys) =
     ap (λ o. cons_option (option_map (λ pair. (key_numbers key, pair)) o) (entries_of new keys)) (same key.slot)
     ∙ ap (λ es. cons_option (keyed_entry slots key) es) (entries_kept slots new same keys)
 
-pub held_kept : (slots new : List (Option Tagged)) → ((slot : ℕ) → slot_at new slot ≡ slot_at slots slot) → (keys : List Key) → AreHeld slots keys → AreHeld new keys
+pub held_kept : (slots new : List (Option PairRow)) → ((slot : ℕ) → slot_at new slot ≡ slot_at slots slot) → (keys : List Key) → AreHeld slots keys → AreHeld new keys
 held_kept slots new same keys held = record {
   occupied = λ key h. subst (λ o. IsSome o) (sym (same key.slot)) (held.occupied key h);
   slots_apart = held.slots_apart;
@@ -104,11 +104,11 @@ held_kept slots new same keys held = record {
 }
 
 -- the entries whose numbers pass a test are those of the keys whose numbers do
-pub entries_filter : (slots : List (Option Tagged)) (test : Numbers → Bool) (keys : List Key) → entries_of slots (filter (λ key. test (key_numbers key)) keys) ≡ filter (λ entry. test entry.0) (entries_of slots keys)
+pub entries_filter : (slots : List (Option PairRow)) (test : Numbers → Bool) (keys : List Key) → entries_of slots (filter (λ key. test (key_numbers key)) keys) ≡ filter (λ entry. test entry.0) (entries_of slots keys)
 entries_filter slots test [] = refl
 entries_filter slots test (key ∷ keys) = by (slot_at slots key.slot) refl (cases_Bool (test (key_numbers key))) (entries_filter slots test keys)
   where
-    by : (o : Option Tagged) → slot_at slots key.slot ≡ o → (test (key_numbers key) ≡ true) ⊎ (test (key_numbers key) ≡ false)
+    by : (o : Option PairRow) → slot_at slots key.slot ≡ o → (test (key_numbers key) ≡ true) ⊎ (test (key_numbers key) ≡ false)
         → entries_of slots (filter (λ key. test (key_numbers key)) keys) ≡ filter (λ entry. test entry.0) (entries_of slots keys)
         → entries_of slots (filter (λ key. test (key_numbers key)) (key ∷ keys)) ≡ filter (λ entry. test entry.0) (entries_of slots (key ∷ keys))
     by None e (inl t) rest = rw (t, e) rest
@@ -118,8 +118,8 @@ entries_filter slots test (key ∷ keys) = by (slot_at slots key.slot) refl (cas
 
 -- ---- how many there are, and that each is there once
 
-module _ (slots : List (Option Tagged)) where
-  numbers_front : (o : Option Tagged) (numbers : Numbers) (rest : List (Numbers × Tagged)) → IsSome o → map (λ entry. entry.0) (cons_option (option_map (λ pair. (numbers, pair)) o) rest) ≡ numbers ∷ map (λ entry. entry.0) rest
+module _ (slots : List (Option PairRow)) where
+  numbers_front : (o : Option PairRow) (numbers : Numbers) (rest : List (Numbers × PairRow)) → IsSome o → map (λ entry. entry.0) (cons_option (option_map (λ pair. (numbers, pair)) o) rest) ≡ numbers ∷ map (λ entry. entry.0) rest
   numbers_front None numbers rest h = absurd (false≢true h)
   numbers_front (Some pair) numbers rest h = refl
 
@@ -130,7 +130,7 @@ module _ (slots : List (Option Tagged)) where
       numbers_front (slot_at slots key.slot) (key_numbers key) (entries_of slots keys) (occupied key (inl refl))
       ∙ ap (λ ns. key_numbers key ∷ ns) (entries_numbers keys (λ other h. occupied other (inr h)))
 
-  length_front : (o : Option Tagged) (numbers : Numbers) (rest : List (Numbers × Tagged)) → IsSome o → length (cons_option (option_map (λ pair. (numbers, pair)) o) rest) ≡ length rest + 1
+  length_front : (o : Option PairRow) (numbers : Numbers) (rest : List (Numbers × PairRow)) → IsSome o → length (cons_option (option_map (λ pair. (numbers, pair)) o) rest) ≡ length rest + 1
   length_front None numbers rest h = absurd (false≢true h)
   length_front (Some pair) numbers rest h = omega arith
 
@@ -156,11 +156,11 @@ once_map f (x ∷ xs) once apart = (
 )
 
 -- no two entries have the same numbers
-pub once_entries : (slots : List (Option Tagged)) (keys : List Key) → AreHeld slots keys → StandOnce keys → StandOnce (map (λ entry. entry.0) (entries_of slots keys))
+pub once_entries : (slots : List (Option PairRow)) (keys : List Key) → AreHeld slots keys → StandOnce keys → StandOnce (map (λ entry. entry.0) (entries_of slots keys))
 once_entries slots keys held once = subst (λ ns. StandOnce ns) (sym (entries_numbers slots keys held.occupied)) (once_map key_numbers keys once held.numbers_apart)
 
 -- what is held under some keys is so under the same in another order
-pub held_same : (slots : List (Option Tagged)) (keys others : List Key) → ((key : Key) → Has others key ↔ Has keys key) → AreHeld slots keys → AreHeld slots others
+pub held_same : (slots : List (Option PairRow)) (keys others : List Key) → ((key : Key) → Has others key ↔ Has keys key) → AreHeld slots keys → AreHeld slots others
 held_same slots keys others same held = record {
   occupied = λ key h. held.occupied key ((same key).0 h);
   slots_apart = λ a b h k. held.slots_apart a b ((same a).0 h) ((same b).0 k);
@@ -169,7 +169,7 @@ held_same slots keys others same held = record {
 
 -- ---- a pair that comes
 
-module _ (slots new : List (Option Tagged)) (keys more : List Key) (numbers : Numbers) (pair : Tagged) (slot : ℕ) (held : AreHeld slots keys) (put : PutsAt slots new slot (Some pair))
+module _ (slots new : List (Option PairRow)) (keys more : List Key) (numbers : Numbers) (pair : PairRow) (slot : ℕ) (held : AreHeld slots keys) (put : PutsAt slots new slot (Some pair))
     (empty : slot_at slots slot ≡ None) (none : (other : ℕ) → ¬ Has keys (slotted_key numbers other)) (members : (key : Key) → Has more key ↔ (Has keys key ⊎ (key ≡ slotted_key numbers slot))) where
   elsewhere : (key : Key) → Has keys key → ¬ (key.slot ≡ slot)
   elsewhere key h e = none_or_some (slot_at slots slot) empty (subst (λ s. IsSome (slot_at slots s)) e (held.occupied key h))
@@ -196,14 +196,14 @@ module _ (slots new : List (Option Tagged)) (keys more : List Key) (numbers : Nu
     ];
   }
 
-  new_entry : (entry : Numbers × Tagged) (key : Key) → key ≡ slotted_key numbers slot → slot_at new key.slot ≡ Some entry.1 → key_numbers key ≡ entry.0 → entry ≡ (numbers, pair)
+  new_entry : (entry : Numbers × PairRow) (key : Key) → key ≡ slotted_key numbers slot → slot_at new key.slot ≡ Some entry.1 → key_numbers key ≡ entry.0 → entry ≡ (numbers, pair)
   new_entry entry key e p q =
       let s : Some entry.1 ≡ Some pair = sym p ∙ ap (λ (k : Key). slot_at new k.slot) e ∙ put.here in
       let t : entry.1 ≡ pair = cc in
       let n : entry.0 ≡ numbers = sym q ∙ ap key_numbers e in
       λ i. (n i, t i)
 
-  pub inserted_entries : (entry : Numbers × Tagged) → Has (entries_of new more) entry ↔ (Has (entries_of slots keys) entry ⊎ (entry ≡ (numbers, pair)))
+  pub inserted_entries : (entry : Numbers × PairRow) → Has (entries_of new more) entry ↔ (Has (entries_of slots keys) entry ⊎ (entry ≡ (numbers, pair)))
   inserted_entries entry = (
     λ h. let s = (has_entry new more entry).0 h in elim ((members s.key).0 s.member) [
       | inl k ↦ inl ((has_entry slots keys entry).1 (record { key = s.key; member = k; pair_is = sym (kept s.key k) ∙ s.pair_is; numbers_are = s.numbers_are }))
@@ -220,7 +220,7 @@ module _ (slots new : List (Option Tagged)) (keys more : List Key) (numbers : Nu
 
 -- ---- a pair that goes
 
-module _ (slots new : List (Option Tagged)) (keys less : List Key) (key : Key) (held : AreHeld slots keys) (put : PutsAt slots new key.slot None) (member : Has keys key)
+module _ (slots new : List (Option PairRow)) (keys less : List Key) (key : Key) (held : AreHeld slots keys) (put : PutsAt slots new key.slot None) (member : Has keys key)
     (members : (other : Key) → Has less other ↔ (Has keys other × ¬ (other ≡ key))) where
   left : (other : Key) → Has keys other → ¬ (other ≡ key) → slot_at new other.slot ≡ slot_at slots other.slot
   left other h n = put.elsewhere other.slot (λ e. n (held.slots_apart other key h member e))
@@ -232,7 +232,7 @@ module _ (slots new : List (Option Tagged)) (keys less : List Key) (key : Key) (
     numbers_apart = λ a b h k. held.numbers_apart a b ((members a).0 h).0 ((members b).0 k).0;
   }
 
-  pub removed_entries : (entry : Numbers × Tagged) → Has (entries_of new less) entry ↔ (Has (entries_of slots keys) entry × ¬ (entry.0 ≡ key_numbers key))
+  pub removed_entries : (entry : Numbers × PairRow) → Has (entries_of new less) entry ↔ (Has (entries_of slots keys) entry × ¬ (entry.0 ≡ key_numbers key))
   removed_entries entry = (
     λ h. let s = (has_entry new less entry).0 h in let m = (members s.key).0 s.member in (
       (has_entry slots keys entry).1 (record { key = s.key; member = m.0; pair_is = sym (left s.key m.0 m.1) ∙ s.pair_is; numbers_are = s.numbers_are }),

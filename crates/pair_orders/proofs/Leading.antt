@@ -6,7 +6,7 @@ use Rattle.std.specs.Cmp.{unsigned_tied}
 use Rattle.std.specs.Ordering.{nat_cmp, ordering_then, is_eq, is_gt, is_ge}
 use Rattle.std.specs.declared.cmp.Ordering.{Ordering}
 use Rattle.std.specs.declared.cmp.Ordering.TheVariants.{Less, Equal, Greater}
-use Rattle.mld_ops.specs.declared.tagged.Tagged.{Tagged}
+use Rattle.mld_ops.specs.declared.pair_lists.PairRow.{PairRow}
 use Rattle.pair_orders.specs.Keys.{places_cmp, wanted_then, is_wanted, has_places, key_numbers, AreLeading, LeadsIn}
 use Rattle.pair_orders.specs.Orders.{IsOrder, IsDividedAt, entries_with, is_before_places, is_up_to_places}
 use Rattle.pair_orders.specs.PairEntries.{entries_of}
@@ -72,7 +72,7 @@ has_between shape wanted key l = has_tied shape wanted key l ∙ by_cases (place
     by_cases Greater = refl
 
 -- so the pairs that have them are those of the keys between two places
-module _ (slots : List (Option Tagged)) (shape : Shape) (wanted : Places) (keys : List Key) (from to : ℕ) (leads : LeadsIn shape wanted) (order : from ≤ to)
+module _ (slots : List (Option PairRow)) (shape : Shape) (wanted : Places) (keys : List Key) (from to : ℕ) (leads : LeadsIn shape wanted) (order : from ≤ to)
     (end : to ≤ length keys) (before : IsDividedAt (is_before_places shape wanted) keys from) (upto : IsDividedAt (is_up_to_places shape wanted) keys to) where
   pub entries_between : entries_with wanted (entries_of slots keys) ≡ entries_of slots (take (to - from) (drop from keys))
   entries_between =

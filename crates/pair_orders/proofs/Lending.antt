@@ -8,7 +8,7 @@ use Rattle.std.specs.List.{filter}
 use Rattle.std.specs.Ordering.{nat_cmp, is_lt, is_le, is_eq, ordering_then}
 use Rattle.std.specs.declared.cmp.Ordering.{Ordering}
 use Rattle.std.specs.declared.cmp.Ordering.TheVariants.{Less, Equal, Greater}
-use Rattle.mld_ops.specs.declared.tagged.Tagged.{Tagged}
+use Rattle.mld_ops.specs.declared.pair_lists.PairRow.{PairRow}
 use Rattle.tree_clock.specs.Lists.{Has}
 use Rattle.chunked_list.specs.Joined.{joined_chunks}
 use Rattle.chunked_list.specs.Parted.{is_between}
@@ -26,11 +26,11 @@ use Rattle.pair_orders.proofs.Holding.{same_entries, entries_filter, length_entr
 use Rattle.pair_orders.proofs.Once.{length_same}
 use Rattle.pair_orders.proofs.Ranking.{keys_piece, slots_pairs}
 
-slots_append : (slots : List (Option Tagged)) (xs ys : List ℕ) → slot_pairs slots (xs ++ ys) ≡ slot_pairs slots xs ++ slot_pairs slots ys
+slots_append : (slots : List (Option PairRow)) (xs ys : List ℕ) → slot_pairs slots (xs ++ ys) ≡ slot_pairs slots xs ++ slot_pairs slots ys
 slots_append slots xs ys = filter_map-append (slot_at slots) xs ys
 
 -- those of one slot more, behind others
-pub lent_more : {K : Type 0} (slot : K → ℕ) (slots : List (Option Tagged)) (keys : List K) (i : ℕ) (d : K) (olds before now : List Tagged) → i < length keys → now ≡ before ++ slot_pairs slots (slot (get_or keys i d) ∷ [])
+pub lent_more : {K : Type 0} (slot : K → ℕ) (slots : List (Option PairRow)) (keys : List K) (i : ℕ) (d : K) (olds before now : List PairRow) → i < length keys → now ≡ before ++ slot_pairs slots (slot (get_or keys i d) ∷ [])
     → before ≡ olds ++ slot_pairs slots (map slot (take i keys)) → now ≡ olds ++ slot_pairs slots (map slot (take (i + 1) keys))
 lent_more slot slots keys i d olds before now l n b =
     let last = slot (get_or keys i d) ∷ [] in
@@ -38,7 +38,7 @@ lent_more slot slots keys i d olds before now l n b =
     ∙ ap (λ xs. olds ++ xs) (sym (slots_append slots (map slot (take i keys)) last) ∙ ap (slot_pairs slots) (sym (map-append slot (take i keys) (get_or keys i d ∷ [])) ∙ ap (map slot) (sym (take_more keys i d l))))
 
 -- of one chunk more
-pub lent_chunk_more : (slots : List (Option Tagged)) (chunks : List (List RankedKey)) (i : ℕ) (chunk keys : List RankedKey) (before now : List Tagged) → i < length chunks → chunk ≡ get_or chunks i chunk → keys ≡ chunk
+pub lent_chunk_more : (slots : List (Option PairRow)) (chunks : List (List RankedKey)) (i : ℕ) (chunk keys : List RankedKey) (before now : List PairRow) → i < length chunks → chunk ≡ get_or chunks i chunk → keys ≡ chunk
     → now ≡ before ++ slot_pairs slots (map (λ key. key.slot) keys) → before ≡ slot_pairs slots (map (λ key. key.slot) (joined_chunks (take i chunks)))
     → now ≡ slot_pairs slots (map (λ key. key.slot) (joined_chunks (take (i + 1) chunks)))
 lent_chunk_more slots chunks i chunk keys before now l e k n b =
@@ -48,17 +48,17 @@ lent_chunk_more slots chunks i chunk keys before now l e k n b =
 
 -- ---- an order shows the pairs
 
-pub order_entries : (slots shown : List (Option Tagged)) (keys dots : List Key) (pairs : List (Numbers × Tagged)) → shown ≡ slots → entries_of slots dots ≡ pairs → ((key : Key) → Has keys key ↔ Has dots key)
-    → (entry : Numbers × Tagged) → Has (entries_of shown keys) entry ↔ Has pairs entry
+pub order_entries : (slots shown : List (Option PairRow)) (keys dots : List Key) (pairs : List (Numbers × PairRow)) → shown ≡ slots → entries_of slots dots ≡ pairs → ((key : Key) → Has keys key ↔ Has dots key)
+    → (entry : Numbers × PairRow) → Has (entries_of shown keys) entry ↔ Has pairs entry
 order_entries slots shown keys dots pairs e v same =
-    subst (λ (ps : List (Numbers × Tagged)). (entry : Numbers × Tagged) → Has (entries_of shown keys) entry ↔ Has ps entry) v
-    (subst (λ (xs : List (Option Tagged)). (entry : Numbers × Tagged) → Has (entries_of xs keys) entry ↔ Has (entries_of slots dots) entry) (sym e) (same_entries slots keys dots same))
+    subst (λ (ps : List (Numbers × PairRow)). (entry : Numbers × PairRow) → Has (entries_of shown keys) entry ↔ Has ps entry) v
+    (subst (λ (xs : List (Option PairRow)). (entry : Numbers × PairRow) → Has (entries_of xs keys) entry ↔ Has (entries_of slots dots) entry) (sym e) (same_entries slots keys dots same))
 
-pub order_once : (slots shown : List (Option Tagged)) (keys dots : List Key) → shown ≡ slots → ((key : Key) → Has keys key ↔ Has dots key) → AreHeld slots dots → StandOnce keys → StandOnce (map (λ entry. entry.0) (entries_of shown keys))
+pub order_once : (slots shown : List (Option PairRow)) (keys dots : List Key) → shown ≡ slots → ((key : Key) → Has keys key ↔ Has dots key) → AreHeld slots dots → StandOnce keys → StandOnce (map (λ entry. entry.0) (entries_of shown keys))
 order_once slots shown keys dots e same held once =
-    subst (λ (xs : List (Option Tagged)). StandOnce (map (λ entry. entry.0) (entries_of xs keys))) (sym e) (once_entries slots keys (held_same slots dots keys same held) once)
+    subst (λ (xs : List (Option PairRow)). StandOnce (map (λ entry. entry.0) (entries_of xs keys))) (sym e) (once_entries slots keys (held_same slots dots keys same held) once)
 
-pub order_length : (slots : List (Option Tagged)) (keys dots : List Key) (pairs : List (Numbers × Tagged)) → entries_of slots dots ≡ pairs → ((key : Key) → Has keys key ↔ Has dots key) → AreHeld slots dots → StandOnce keys → StandOnce dots
+pub order_length : (slots : List (Option PairRow)) (keys dots : List Key) (pairs : List (Numbers × PairRow)) → entries_of slots dots ≡ pairs → ((key : Key) → Has keys key ↔ Has dots key) → AreHeld slots dots → StandOnce keys → StandOnce dots
     → length keys ≡ length pairs
 order_length slots keys dots pairs v same held once other = length_same keys dots once other same ∙ sym (length_entries slots dots held.occupied) ∙ ap (λ ps. length ps) v
 
@@ -93,7 +93,7 @@ map_filter f p (x ∷ xs) = elim (cases_Bool (p (f x))) [
   | inr n ↦ rw n (map_filter f p xs)
 ]
 
-pub within_pairs : (slots shown : List (Option Tagged)) (dots keys : List RankedKey) (pairs : List (Numbers × Tagged)) (path first last : ℕ) → shown ≡ slots → entries_of slots (keys_by Dot dots) ≡ pairs
+pub within_pairs : (slots shown : List (Option PairRow)) (dots keys : List RankedKey) (pairs : List (Numbers × PairRow)) (path first last : ℕ) → shown ≡ slots → entries_of slots (keys_by Dot dots) ≡ pairs
     → keys ≡ filter (is_between (is_before_front (path ∷ first ∷ [])) (is_up_to_front (path ∷ last ∷ []))) dots
     → slot_pairs shown (map (λ key. key.slot) keys) ≡ map (λ entry. entry.1) (filter (λ entry. is_of_ticks path first last entry.0) pairs)
 within_pairs slots shown dots keys pairs path first last e v k =
@@ -103,18 +103,18 @@ within_pairs slots shown dots keys pairs path first last e v k =
     ∙ ap (map (λ entry. entry.1)) (entries_filter slots (is_of_ticks path first last) (keys_by Dot dots) ∙ ap (filter (λ entry. is_of_ticks path first last entry.0)) v)
 
 -- all pairs, by dot
-pub lent_all : (slots shown : List (Option Tagged)) (elements joined : List RankedKey) (pairs : List (Numbers × Tagged)) → shown ≡ slots → joined ≡ elements → entries_of slots (keys_by Dot elements) ≡ pairs
+pub lent_all : (slots shown : List (Option PairRow)) (elements joined : List RankedKey) (pairs : List (Numbers × PairRow)) → shown ≡ slots → joined ≡ elements → entries_of slots (keys_by Dot elements) ≡ pairs
     → slot_pairs shown (map (λ key. key.slot) joined) ≡ map (λ entry. entry.1) pairs
 lent_all slots shown elements joined pairs e j v =
     (λ i. slot_pairs (e i) (map (λ key. key.slot) (j i))) ∙ sym (slots_pairs Dot slots elements) ∙ ap (map (λ entry. entry.1)) v
 
 -- the pairs of an order's piece
-pub lent_piece : (shape : Shape) (slots shown : List (Option Tagged)) (elements : List RankedKey) (keys : List Key) (lent : List RankedKey) (from count : ℕ) → lent ≡ take count (drop from elements) → keys_by shape elements ≡ keys → slots ≡ shown
+pub lent_piece : (shape : Shape) (slots shown : List (Option PairRow)) (elements : List RankedKey) (keys : List Key) (lent : List RankedKey) (from count : ℕ) → lent ≡ take count (drop from elements) → keys_by shape elements ≡ keys → slots ≡ shown
     → slot_pairs slots (map (λ key. key.slot) lent) ≡ map (λ entry. entry.1) (entries_of shown (take count (drop from keys)))
 lent_piece shape slots shown elements keys lent from count e k q =
     sym (slots_pairs shape slots lent)
     ∙ ap (λ ks. map (λ entry. entry.1) (entries_of slots ks)) (ap (keys_by shape) e ∙ keys_piece shape elements from count ∙ ap (λ ks. take count (drop from ks)) k)
-    ∙ ap (λ (xs : List (Option Tagged)). map (λ entry. entry.1) (entries_of xs (take count (drop from keys)))) q
+    ∙ ap (λ (xs : List (Option PairRow)). map (λ entry. entry.1) (entries_of xs (take count (drop from keys)))) q
 
 pub ok_weaker : {A E : Type 0} {P Q : A → Type 0} (r : Result A E) → ((a : A) → P a → Q a) → IfOk r P → IfOk r Q
 ok_weaker (Ok a) f h = f a h

@@ -2,6 +2,7 @@ pub use Rattle.chunked_list.proofs as of_chunked_list
 pub mod Changing
 pub mod Comparing
 pub mod Dividing
+pub mod Emptying
 pub mod Filling
 pub mod Finding
 pub mod Fronting

@@ -2,7 +2,7 @@
 use Rattle.std.proofs.Common.{◌≡◌, List, [], ◌∷◌, ◌↔◌, Bool, cond, IsTrue, length, map, sym, subst, ap, inl, inr}
 use Rattle.std.proofs.lemmas.Bool.{cases_Bool}
 use Rattle.std.specs.List.{filter}
-use Rattle.mld_ops.specs.declared.tagged.Tagged.{Tagged}
+use Rattle.mld_ops.specs.declared.pair_lists.PairRow.{PairRow}
 use Rattle.mld_ops.proofs.AscendingLaws.{has_filter}
 use Rattle.tree_clock.specs.Lists.{Has}
 use Rattle.pair_orders.specs.PairEntries.{StandOnce, StandTogether, FindsEntries, numbers_of_terms}
@@ -34,14 +34,14 @@ once_kept f test (x ∷ xs) once = elim (cases_Bool (test x)) [
 ]
 
 -- a list has the same pairs as another, and in neither two have the same numbers
-module _ (test : Numbers → Bool) (pairs entries : List (Numbers × Tagged)) (same : (entry : Numbers × Tagged) → Has entries entry ↔ Has pairs entry)
+module _ (test : Numbers → Bool) (pairs entries : List (Numbers × PairRow)) (same : (entry : Numbers × PairRow) → Has entries entry ↔ Has pairs entry)
     (once : StandOnce (map (λ entry. entry.0) entries)) where
-  same_kept : (entry : Numbers × Tagged) → Has (filter (λ entry. test entry.0) entries) entry ↔ (Has pairs entry × IsTrue (test entry.0))
+  same_kept : (entry : Numbers × PairRow) → Has (filter (λ entry. test entry.0) entries) entry ↔ (Has pairs entry × IsTrue (test entry.0))
   same_kept entry =
       let f = has_filter (λ entry. test entry.0) entries entry in
       (λ h. let m = f.0 h in ((same entry).0 m.0, m.1), λ h. f.1 ((same entry).1 h.0, h.1))
 
-  pub finds_entries : StandTogether (λ entry. numbers_of_terms entry.0) (filter (λ entry. test entry.0) entries) → (found : List Tagged)
+  pub finds_entries : StandTogether (λ entry. numbers_of_terms entry.0) (filter (λ entry. test entry.0) entries) → (found : List PairRow)
       → found ≡ map (λ entry. entry.1) (filter (λ entry. test entry.0) entries) → FindsEntries test pairs found
   finds_entries together found e = record {
     entries = filter (λ entry. test entry.0) entries;

@@ -7,7 +7,7 @@ use Rattle.std.specs.List.{cons_option}
 use Rattle.std.specs.Option.{option_map, is_some}
 use Rattle.std.specs.declared.cmp.Ordering.{Ordering}
 use Rattle.std.specs.declared.cmp.Ordering.TheVariants.{Less, Equal}
-use Rattle.mld_ops.specs.declared.tagged.Tagged.{Tagged}
+use Rattle.mld_ops.specs.declared.pair_lists.PairRow.{PairRow}
 use Rattle.tree_clock.specs.Lists.{Has, IsBelowAll, IsAscending}
 use Rattle.pair_orders.specs.Keys.{ranked, key_by, keys_by, slotted_key, ranked_cmp, ranked_total, shape_cmp, slot_at, slot_pairs, numbers_in, ranked_places, wanted_then, places_cmp}
 use Rattle.pair_orders.specs.KeyFronts.{HasFront}
@@ -110,11 +110,11 @@ lent_keys now shape elements keys lent from count e k =
     sym (map-map (key_by shape) now lent) ∙ ap (keys_by shape) e ∙ keys_piece shape elements from count ∙ ap (λ ks. take count (drop from ks)) k
 
 -- their pairs are those in their slots
-pub slots_pairs : (shape : Shape) (slots : List (Option Tagged)) (xs : List RankedKey) → map (λ entry. entry.1) (entries_of slots (keys_by shape xs)) ≡ slot_pairs slots (map (λ key. key.slot) xs)
+pub slots_pairs : (shape : Shape) (slots : List (Option PairRow)) (xs : List RankedKey) → map (λ entry. entry.1) (entries_of slots (keys_by shape xs)) ≡ slot_pairs slots (map (λ key. key.slot) xs)
 slots_pairs shape slots [] = refl
 slots_pairs shape slots (x ∷ xs) = one (slot_at slots x.slot) (numbers_in shape x) (entries_of slots (keys_by shape xs)) ∙ ap (cons_option (slot_at slots x.slot)) (slots_pairs shape slots xs)
   where
-    one : (o : Option Tagged) (numbers : Numbers) (rest : List (Numbers × Tagged)) → map (λ entry. entry.1) (cons_option (option_map (λ pair. (numbers, pair)) o) rest) ≡ cons_option o (map (λ entry. entry.1) rest)
+    one : (o : Option PairRow) (numbers : Numbers) (rest : List (Numbers × PairRow)) → map (λ entry. entry.1) (cons_option (option_map (λ pair. (numbers, pair)) o) rest) ≡ cons_option o (map (λ entry. entry.1) rest)
     one None numbers rest = refl
     one (Some pair) numbers rest = refl
 

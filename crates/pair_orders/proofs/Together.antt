@@ -6,7 +6,7 @@ use Rattle.std.specs.Cmp.Lexicographic.{slice_cmp}
 use Rattle.std.specs.List.{filter}
 use Rattle.std.specs.Ordering.{nat_cmp}
 use Rattle.std.specs.declared.cmp.Ordering.TheVariants.{Less, Equal}
-use Rattle.mld_ops.specs.declared.tagged.Tagged.{Tagged}
+use Rattle.mld_ops.specs.declared.pair_lists.PairRow.{PairRow}
 use Rattle.mld_ops.proofs.AscendingLaws.{ascending_filter, below_member, has_filter}
 use Rattle.tree_clock.specs.Lists.{Has, IsAscending}
 use Rattle.pair_orders.specs.Keys.{ranks, shape_cmp, key_numbers, slot_at, LeadsByTerms}
@@ -107,7 +107,7 @@ mapped_together f g (x ∷ xs) t = (
 )
 
 -- of the pairs of such an order, those whose numbers pass a test stand together
-pub kept_together : (slots : List (Option Tagged)) (shape : Shape) (keys : List Key) (test : Numbers → Bool) → LeadsByTerms shape → IsOrder shape keys slots
+pub kept_together : (slots : List (Option PairRow)) (shape : Shape) (keys : List Key) (test : Numbers → Bool) → LeadsByTerms shape → IsOrder shape keys slots
     → StandTogether (λ entry. numbers_of_terms entry.0) (filter (λ entry. test entry.0) (entries_of slots keys))
 kept_together slots shape keys test leads is =
     let kept = filter (λ key. test (key_numbers key)) keys in
@@ -115,5 +115,5 @@ kept_together slots shape keys test leads is =
     let by_key = keys_together shape leads kept (ascending_filter (shape_cmp shape) (λ key. test (key_numbers key)) keys is.ascending) in
     let by_numbers = together_mapped key_numbers numbers_of_terms kept by_key in
     let of_entries = subst (λ ns. StandTogether numbers_of_terms ns) (sym (entries_numbers slots kept occupied)) by_numbers in
-    subst (λ (es : List (Numbers × Tagged)). StandTogether (λ entry. numbers_of_terms entry.0) es) (entries_filter slots test keys)
+    subst (λ (es : List (Numbers × PairRow)). StandTogether (λ entry. numbers_of_terms entry.0) es) (entries_filter slots test keys)
     (mapped_together (λ entry. entry.0) numbers_of_terms (entries_of slots kept) of_entries)

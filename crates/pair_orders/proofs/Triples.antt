@@ -7,7 +7,7 @@ use Rattle.std.proofs.lemmas.Simd.{map-map}
 use Rattle.std.specs.List.{filter}
 use Rattle.std.specs.declared.cmp.Ordering.{Ordering}
 use Rattle.mld_ops.proofs.AscendingLaws.{ascending_back, ascending_front, has_append, has_at, has_filter, has_left, has_right}
-use Rattle.mld_ops.specs.declared.tagged.Tagged.{Tagged}
+use Rattle.mld_ops.specs.declared.pair_lists.PairRow.{PairRow}
 use Rattle.tree_clock.specs.Lists.{Has, IsAscending}
 use Rattle.pair_orders.specs.Keys.{shape_cmp, key_numbers, slot_at, LeadsByTerms}
 use Rattle.pair_orders.specs.Orders.{IsOrder}
@@ -160,7 +160,7 @@ ascending_piece R keys from count a =
     ascending_front R (take count (drop from keys)) (drop count (drop from keys)) (subst (IsAscending R) (sym (take-append-drop count (drop from keys))) behind)
 
 -- those of one triple stand together, also where the keys are lent
-pub piece_together : {K : Type 0} (key : K → Key) (shape : Shape) (keys : List Key) (slots : List (Option Tagged)) (from count : ℕ) (found : List K) → LeadsByTerms shape → IsOrder shape keys slots
+pub piece_together : {K : Type 0} (key : K → Key) (shape : Shape) (keys : List Key) (slots : List (Option PairRow)) (from count : ℕ) (found : List K) → LeadsByTerms shape → IsOrder shape keys slots
     → map key found ≡ take count (drop from keys) → StandTogether (λ k. key_terms (key k)) found
 piece_together key shape keys slots from count found leads is e =
     let piece = take count (drop from keys) in
@@ -176,7 +176,7 @@ piece_members key piece lent found e m = subst (λ ts. (terms : TermNumbers) →
 -- ---- those of the pairs
 
 -- of the keys between two places that the wanted numbers divide
-pub triples_of_entries : (slots : List (Option Tagged)) (test : Numbers → Bool) (entries : List (Numbers × Tagged)) (piece : List Key) → filter (λ entry. test entry.0) entries ≡ entries_of slots piece
+pub triples_of_entries : (slots : List (Option PairRow)) (test : Numbers → Bool) (entries : List (Numbers × PairRow)) (piece : List Key) → filter (λ entry. test entry.0) entries ≡ entries_of slots piece
     → ((key : Key) → Has piece key → IsSome (slot_at slots key.slot)) → (found : List TermNumbers) → ((terms : TermNumbers) → Has found terms ↔ Has (map key_terms piece) terms) → AreTriplesOf test entries found
 triples_of_entries slots test entries piece e occupied found m terms =
     let numbers : map (λ entry. entry.0) (filter (λ entry. test entry.0) entries) ≡ map key_numbers piece = ap (map (λ entry. entry.0)) e ∙ entries_numbers slots piece occupied in (
@@ -192,7 +192,7 @@ triples_of_entries slots test entries piece e occupied found m terms =
     )
 
 -- the same pairs in whatever order
-pub same_triples : (test : Numbers → Bool) (entries pairs : List (Numbers × Tagged)) → ((entry : Numbers × Tagged) → Has entries entry ↔ Has pairs entry) → (found : List TermNumbers) → AreTriplesOf test entries found
+pub same_triples : (test : Numbers → Bool) (entries pairs : List (Numbers × PairRow)) → ((entry : Numbers × PairRow) → Has entries entry ↔ Has pairs entry) → (found : List TermNumbers) → AreTriplesOf test entries found
     → AreTriplesOf test pairs found
 same_triples test entries pairs same found are terms = (
   λ h. let e = (are terms).0 h in (e.0, (same e.0).0 e.1, e.2, e.3),

@@ -2,7 +2,7 @@
 use Rattle.std.specs.Prelude.{◌≡◌, ℕ, ◌+◌, ◌<◌, ◌≤◌, List, [], ◌↔◌, Option, None, IsSome, length, min, vec_len, vec_capacity}
 use Rattle.std.specs.List.{slice_index_or}
 use Rattle.chunked_list.specs.Room.{ChunkedValue}
-use Rattle.mld_ops.specs.declared.tagged.Tagged.{Tagged}
+use Rattle.mld_ops.specs.declared.pair_lists.PairRow.{PairRow}
 use Rattle.tree_clock.specs.Lists.{Has, IsAscending}
 use Rattle.pair_orders.specs.Keys.{ranked_cmp, keys_by, key_numbers, slot_at}
 use Rattle.pair_orders.specs.PairEntries.{StandOnce, PairsValue, entries_of}
@@ -15,7 +15,7 @@ use Rattle.pair_orders.specs.declared.lists.Lists.{Lists}
 use Rattle.pair_orders.specs.declared.slots.Slots.{Slots}
 
 -- the numbers are those of empty slots, each once
-pub record AreFree (slots : List (Option Tagged)) (free : List ℕ) : Type 0 where
+pub record AreFree (slots : List (Option PairRow)) (free : List ℕ) : Type 0 where
   pub within : (slot : ℕ) → Has free slot → slot < length slots
   pub empty : (slot : ℕ) → Has free slot → slot_at slots slot ≡ None
   pub once : StandOnce free
@@ -26,7 +26,7 @@ pub record AreSlots (slots : Slots) : Type 0 where
   pub few : vec_len slots.pairs ≤ slots_limit
 
 -- one slot was given another content
-pub record PutsAt (old new : List (Option Tagged)) (slot : ℕ) (content : Option Tagged) : Type 0 where
+pub record PutsAt (old new : List (Option PairRow)) (slot : ℕ) (content : Option PairRow) : Type 0 where
   pub here : slot_at new slot ≡ content
   pub elsewhere : (other : ℕ) → ¬ (other ≡ slot) → slot_at new other ≡ slot_at old other
 
@@ -60,7 +60,7 @@ abbrev pub lists_room : Lists → ℕ
 lists_room lists = min (min (list_at lists 0).room (list_at lists 1).room) (min (list_at lists 2).room (list_at lists 3).room)
 
 -- the keys have pairs in slots, no two in one slot, and no two have the same numbers
-pub record AreHeld (slots : List (Option Tagged)) (keys : List Key) : Type 0 where
+pub record AreHeld (slots : List (Option PairRow)) (keys : List Key) : Type 0 where
   pub occupied : (key : Key) → Has keys key → IsSome (slot_at slots key.slot)
   pub slots_apart : (a b : Key) → Has keys a → Has keys b → a.slot ≡ b.slot → a ≡ b
   pub numbers_apart : (a b : Key) → Has keys a → Has keys b → key_numbers a ≡ key_numbers b → a ≡ b

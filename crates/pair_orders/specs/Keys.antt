@@ -10,7 +10,7 @@ use Rattle.std.specs.declared.cmp.Ordering.{Ordering}
 use Rattle.std.specs.declared.cmp.Ordering.TheVariants.{Less, Equal, Greater}
 use Rattle.chunked_list.specs.NumberLaws.{numbers_compared}
 use Rattle.chunked_list.specs.NumberTexts.{numbers_text}
-use Rattle.mld_ops.specs.declared.tagged.Tagged.{Tagged}
+use Rattle.mld_ops.specs.declared.pair_lists.PairRow.{PairRow}
 use Rattle.pair_orders.specs.declared.keys.Numbers.{Numbers}
 use Rattle.pair_orders.specs.declared.keys.Places.{Places}
 use Rattle.pair_orders.specs.declared.keys.Shape.{Shape}
@@ -29,11 +29,11 @@ abbrev pub key_numbers : Key → Numbers
 key_numbers key = record { s = key.s; p = key.p; o = key.o; path = key.path; tick = key.tick }
 
 -- the pair in a slot
-abbrev pub slot_at : List (Option Tagged) → ℕ → Option Tagged
+abbrev pub slot_at : List (Option PairRow) → ℕ → Option PairRow
 slot_at slots slot = slice_index_or slots slot None
 
 -- the pairs in slots, where some are
-abbrev pub slot_pairs : List (Option Tagged) → List ℕ → List Tagged
+abbrev pub slot_pairs : List (Option PairRow) → List ℕ → List PairRow
 slot_pairs slots numbers = filter_map (slot_at slots) numbers
 
 -- ---- orders

@@ -4,7 +4,7 @@ use Rattle.std.specs.Int.Digits.{digits_of}
 use Rattle.std.specs.List.{filter}
 use Rattle.std.specs.List.Sorted.{IsPartitionPoint}
 use Rattle.std.specs.Ordering.{is_gt, is_ge}
-use Rattle.mld_ops.specs.declared.tagged.Tagged.{Tagged}
+use Rattle.mld_ops.specs.declared.pair_lists.PairRow.{PairRow}
 use Rattle.tree_clock.specs.Lists.{Has, IsAscending}
 use Rattle.pair_orders.specs.Keys.{shape_cmp, slot_at, places_cmp, has_places}
 use Rattle.pair_orders.specs.declared.keys.Key.{Key}
@@ -16,15 +16,15 @@ use Rattle.pair_orders.specs.declared.keys.Shape.{Shape}
 pub record OrderValue : Type 0 where
   pub shape : Shape
   pub keys : List Key
-  pub slots : List (Option Tagged)
+  pub slots : List (Option PairRow)
 
 -- the keys ascend, and the slot of each is occupied
-pub record IsOrder (shape : Shape) (keys : List Key) (slots : List (Option Tagged)) : Type 0 where
+pub record IsOrder (shape : Shape) (keys : List Key) (slots : List (Option PairRow)) : Type 0 where
   pub ascending : IsAscending (shape_cmp shape) keys
   pub occupied : (key : Key) → Has keys key → IsSome (slot_at slots key.slot)
 
 -- of pairs with their numbers, those that have the wanted ones
-abbrev pub entries_with : Places → List (Numbers × Tagged) → List (Numbers × Tagged)
+abbrev pub entries_with : Places → List (Numbers × PairRow) → List (Numbers × PairRow)
 entries_with wanted entries = filter (λ entry. has_places wanted entry.0) entries
 
 -- how many digits a number has where it is written by twos; 0 has none

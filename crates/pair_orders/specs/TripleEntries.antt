@@ -1,6 +1,6 @@
 -- The triples of pairs, by the numbers of their terms, and how they are found. `NumberedPairs::triples`, `search_triples` and `KeyOrder::triples_between` cite it.
 use Rattle.std.specs.Prelude.{◌≡◌, ℕ, zero, suc, List, [], ◌∷◌, ◌↔◌, Bool, IsTrue}
-use Rattle.mld_ops.specs.declared.tagged.Tagged.{Tagged}
+use Rattle.mld_ops.specs.declared.pair_lists.PairRow.{PairRow}
 use Rattle.tree_clock.specs.Lists.{Has}
 use Rattle.pair_orders.specs.Keys.{key_numbers}
 use Rattle.pair_orders.specs.PairEntries.{StandOnce, BeginsAlike}
@@ -17,12 +17,12 @@ abbrev pub key_terms : Key → TermNumbers
 key_terms key = term_numbers (key_numbers key)
 
 -- these are the triples of the pairs whose numbers pass the test, however often each is there
-abbrev pub AreTriplesOf : (Numbers → Bool) → List (Numbers × Tagged) → List TermNumbers → Type 0
+abbrev pub AreTriplesOf : (Numbers → Bool) → List (Numbers × PairRow) → List TermNumbers → Type 0
 AreTriplesOf test pairs found = (terms : TermNumbers)
-    → Has found terms ↔ ((entry : Numbers × Tagged) × Has pairs entry × IsTrue (test entry.0) × (term_numbers entry.0 ≡ terms))
+    → Has found terms ↔ ((entry : Numbers × PairRow) × Has pairs entry × IsTrue (test entry.0) × (term_numbers entry.0 ≡ terms))
 
 -- the triples of the pairs whose numbers pass the test are found, each once
-pub record FindsTriples (test : Numbers → Bool) (pairs : List (Numbers × Tagged)) (found : List TermNumbers) : Type 0 where
+pub record FindsTriples (test : Numbers → Bool) (pairs : List (Numbers × PairRow)) (found : List TermNumbers) : Type 0 where
   pub members : AreTriplesOf test pairs found
   pub once : StandOnce found
 

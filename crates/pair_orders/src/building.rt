@@ -1,6 +1,6 @@
 //! Pairs that are put in all at once.
 ghost use Rattle.std.specs.Prelude.{◌≡◌, ◌+◌, ◌<◌, ◌≤◌, ◌⊎◌, ◌↔◌, ℕ, [], map, vec_len, vec_capacity, IfOk};
-ghost use Rattle.mld_ops.specs.declared.tagged.Tagged.{Tagged};
+ghost use Rattle.mld_ops.specs.declared.pair_lists.PairRow.{PairRow};
 ghost use Rattle.tree_clock.specs.Lists.{Has, IsAscending};
 ghost use Rattle.pair_orders.specs.Keys.{slotted_key, key_numbers, ranked, ranked_cmp};
 ghost use Rattle.pair_orders.specs.PairEntries.{StandOnce, entries_of};
@@ -13,21 +13,21 @@ use crate::keys::{Key, Numbers, RankedKey, Shape};
 use crate::lists::{Lists, lists_of};
 use crate::slots::{Slots, make_slots, take_slot};
 use chunked_list::Chunked;
-use mld_ops::Tagged;
+use mld_ops::PairRow;
 use std::alloc::{AllocError, Global};
 
 /// Puts pairs into slots of which there are none yet, and gives their keys.
 pub(crate) fn fill_slots(
     alloc: Global,
     slots: &mut Slots,
-    entries: Vec<(Numbers, Tagged)>,
+    entries: Vec<(Numbers, PairRow)>,
 ) -> Result<Vec<Key>, AllocError>
     requires is { AreSlots slots.old }
     requires pairs { slots.old.pairs.items ≡ [] }
     requires free { vec_len slots.old.free ≡ 0 }
     requires once { StandOnce (map (λ entry. entry.0) entries.items) }
     ensures is { IfOk result (λ keys. AreFilled slots.new keys.items) }
-    ensures members { IfOk result (λ keys. (entry : Numbers × Tagged) → Has (entries_of slots.new.pairs.items keys.items) entry
+    ensures members { IfOk result (λ keys. (entry : Numbers × PairRow) → Has (entries_of slots.new.pairs.items keys.items) entry
         ↔ Has entries.items entry) }
 {
     make_slots(slots, entries.len())?;
@@ -37,14 +37,14 @@ pub(crate) fn fill_slots(
 }
 
 // Puts pairs into empty slots, the last first.
-fn put_all(slots: &mut Slots, keys: &mut Vec<Key>, entries: Vec<(Numbers, Tagged)>)
+fn put_all(slots: &mut Slots, keys: &mut Vec<Key>, entries: Vec<(Numbers, PairRow)>)
     requires is { AreFilled slots.old keys.old.items }
     requires none { keys.old.items ≡ [] }
     requires once { StandOnce (map (λ entry. entry.0) entries.items) }
     requires free { vec_len entries ≤ vec_len slots.old.free }
     requires room { vec_len keys.old + vec_len entries ≤ vec_capacity keys.old }
     ensures is { AreFilled slots.new keys.new.items }
-    ensures members { (entry : Numbers × Tagged) → Has (entries_of slots.new.pairs.items keys.new.items) entry ↔ Has entries.items entry }
+    ensures members { (entry : Numbers × PairRow) → Has (entries_of slots.new.pairs.items keys.new.items) entry ↔ Has entries.items entry }
 {
     let mut rest = entries;
     while let Some(entry) = rest.pop() {
@@ -53,13 +53,13 @@ fn put_all(slots: &mut Slots, keys: &mut Vec<Key>, entries: Vec<(Numbers, Tagged
 }
 
 // Puts a pair into an empty slot, whose key comes behind the others.
-fn put_entry(slots: &mut Slots, keys: &mut Vec<Key>, entry: (Numbers, Tagged))
+fn put_entry(slots: &mut Slots, keys: &mut Vec<Key>, entry: (Numbers, PairRow))
     requires is { AreFilled slots.old keys.old.items }
     requires none { (slot : ℕ) → ¬ Has keys.old.items (slotted_key entry.0 slot) }
     requires free { 0 < vec_len slots.old.free }
     requires room { vec_len keys.old < vec_capacity keys.old }
     ensures is { AreFilled slots.new keys.new.items }
-    ensures members { (other : Numbers × Tagged) → Has (entries_of slots.new.pairs.items keys.new.items) other
+    ensures members { (other : Numbers × PairRow) → Has (entries_of slots.new.pairs.items keys.new.items) other
         ↔ (Has (entries_of slots.old.pairs.items keys.old.items) other ⊎ (other ≡ entry)) }
     ensures numbers { (other : Key) → Has keys.new.items other → (Has keys.old.items other ⊎ (key_numbers other ≡ entry.0)) }
     ensures free { vec_len slots.old.free ≡ vec_len slots.new.free + 1 }

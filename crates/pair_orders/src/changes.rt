@@ -1,6 +1,6 @@
 //! Pairs that come and go.
 ghost use Rattle.std.specs.Prelude.{◌≡◌, ◌<◌, ◌≤◌, ◌+◌, ◌⊎◌, ◌↔◌, ℕ, min, vec_len, OnOk};
-ghost use Rattle.mld_ops.specs.declared.tagged.Tagged.{Tagged};
+ghost use Rattle.mld_ops.specs.declared.pair_lists.PairRow.{PairRow};
 ghost use Rattle.tree_clock.specs.Lists.{Has};
 ghost use Rattle.pair_orders.specs.Keys.{slotted_key};
 ghost use Rattle.pair_orders.specs.PairEntries.{HasNumbers};
@@ -11,7 +11,7 @@ use crate::finds::find_slot;
 use crate::keys::{Key, Numbers};
 use crate::lists::{Lists, make_room, put_key, take_key};
 use crate::slots::{Slots, let_go, make_slots, take_slot};
-use mld_ops::Tagged;
+use mld_ops::PairRow;
 use std::alloc::{AllocError, Global};
 
 /// Makes room for so many pairs more.
@@ -32,11 +32,11 @@ pub(crate) fn prepare_for(
 }
 
 /// Puts a pair in, unless one with these numbers is there. It takes no memory.
-pub(crate) fn insert_in(slots: &mut Slots, lists: &mut Lists, numbers: Numbers, pair: Tagged)
+pub(crate) fn insert_in(slots: &mut Slots, lists: &mut Lists, numbers: Numbers, pair: PairRow)
     requires is { IsPairs slots.old lists.old }
     requires room { 0 < (pairs_value slots.old lists.old).room }
     ensures is { IsPairs slots.new lists.new }
-    ensures members { (other : Numbers × Tagged) → Has (pairs_value slots.new lists.new).pairs other
+    ensures members { (other : Numbers × PairRow) → Has (pairs_value slots.new lists.new).pairs other
         ↔ (Has (pairs_value slots.old lists.old).pairs other ⊎ ((other ≡ (numbers, pair)) × ¬ HasNumbers (pairs_value slots.old lists.old).pairs numbers)) }
     ensures room { (pairs_value slots.old lists.old).room ≤ (pairs_value slots.new lists.new).room + 1 }
 {
@@ -47,12 +47,12 @@ pub(crate) fn insert_in(slots: &mut Slots, lists: &mut Lists, numbers: Numbers, 
 }
 
 // Puts a pair in whose numbers aren't there.
-fn put_new(slots: &mut Slots, lists: &mut Lists, numbers: Numbers, pair: Tagged)
+fn put_new(slots: &mut Slots, lists: &mut Lists, numbers: Numbers, pair: PairRow)
     requires is { IsPairs slots.old lists.old }
     requires room { 0 < (pairs_value slots.old lists.old).room }
     requires none { (slot : ℕ) → ¬ Has (dots_in lists.old) (slotted_key numbers slot) }
     ensures is { IsPairs slots.new lists.new }
-    ensures members { (other : Numbers × Tagged) → Has (pairs_value slots.new lists.new).pairs other
+    ensures members { (other : Numbers × PairRow) → Has (pairs_value slots.new lists.new).pairs other
         ↔ (Has (pairs_value slots.old lists.old).pairs other ⊎ (other ≡ (numbers, pair))) }
     ensures room { (pairs_value slots.old lists.old).room ≤ (pairs_value slots.new lists.new).room + 1 }
 {
@@ -64,7 +64,7 @@ fn put_new(slots: &mut Slots, lists: &mut Lists, numbers: Numbers, pair: Tagged)
 pub(crate) fn remove_in(slots: &mut Slots, lists: &mut Lists, numbers: &Numbers)
     requires { IsPairs slots.old lists.old }
     ensures is { IsPairs slots.new lists.new }
-    ensures members { (other : Numbers × Tagged) → Has (pairs_value slots.new lists.new).pairs other
+    ensures members { (other : Numbers × PairRow) → Has (pairs_value slots.new lists.new).pairs other
         ↔ (Has (pairs_value slots.old lists.old).pairs other × ¬ (other.0 ≡ numbers.now)) }
     ensures room { (pairs_value slots.old lists.old).room ≤ (pairs_value slots.new lists.new).room }
 {
@@ -78,7 +78,7 @@ fn take_old(slots: &mut Slots, lists: &mut Lists, numbers: &Numbers, slot: u32)
     requires is { IsPairs slots.old lists.old }
     requires member { Has (dots_in lists.old) (slotted_key numbers.now slot) }
     ensures is { IsPairs slots.new lists.new }
-    ensures members { (other : Numbers × Tagged) → Has (pairs_value slots.new lists.new).pairs other
+    ensures members { (other : Numbers × PairRow) → Has (pairs_value slots.new lists.new).pairs other
         ↔ (Has (pairs_value slots.old lists.old).pairs other × ¬ (other.0 ≡ numbers.now)) }
     ensures room { (pairs_value slots.old lists.old).room ≤ (pairs_value slots.new lists.new).room }
 {

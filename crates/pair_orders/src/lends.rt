@@ -6,15 +6,15 @@ ghost use Rattle.pair_orders.specs.Keys.{slot_pairs};
 use crate::keys::RankedKey;
 use crate::slots::pair_in;
 use chunked_list::Chunk;
-use mld_ops::Tagged;
+use mld_ops::PairRow;
 use std::alloc::{AllocError, Global};
 
 /// The pairs of the keys that were found.
 pub(crate) fn lend_found<'a>(
     alloc: Global,
-    slots: &'a [Option<Tagged>],
+    slots: &'a [Option<PairRow>],
     keys: &[&RankedKey],
-) -> Result<Vec<&'a Tagged>, AllocError>
+) -> Result<Vec<&'a PairRow>, AllocError>
     ensures { IfOk result (λ list. map (λ x. x.now) list.items ≡ slot_pairs slots.now (map (λ key. key.now.slot) keys.now)) }
 {
     let mut list = Vec::with_capacity(alloc, keys.len())?;
@@ -27,10 +27,10 @@ pub(crate) fn lend_found<'a>(
 /// The pairs of the keys in chunks, of which there are so many.
 pub(crate) fn lend_chunks<'a>(
     alloc: Global,
-    slots: &'a [Option<Tagged>],
+    slots: &'a [Option<PairRow>],
     chunks: &[Chunk<RankedKey>],
     count: usize,
-) -> Result<Vec<&'a Tagged>, AllocError>
+) -> Result<Vec<&'a PairRow>, AllocError>
     ensures { IfOk result (λ list. map (λ x. x.now) list.items
         ≡ slot_pairs slots.now (map (λ key. key.slot) (joined_chunks chunks.now))) }
 {
@@ -43,8 +43,8 @@ pub(crate) fn lend_chunks<'a>(
 
 // Adds the pairs of keys.
 fn add_pairs<'a>(
-    list: &mut Vec<&'a Tagged>,
-    slots: &'a [Option<Tagged>],
+    list: &mut Vec<&'a PairRow>,
+    slots: &'a [Option<PairRow>],
     keys: &[RankedKey],
 ) -> Result<(), AllocError>
     ensures { OnOk result (map (λ x. x.now) list.new.items
@@ -58,8 +58,8 @@ fn add_pairs<'a>(
 
 /// Adds the pair in a slot.
 pub(crate) fn add_pair<'a>(
-    list: &mut Vec<&'a Tagged>,
-    slots: &'a [Option<Tagged>],
+    list: &mut Vec<&'a PairRow>,
+    slots: &'a [Option<PairRow>],
     slot: u32,
 ) -> Result<(), AllocError>
     ensures { OnOk result (map (λ x. x.now) list.new.items

@@ -9,6 +9,7 @@ mod keys;
 mod lends;
 mod limits;
 mod lists;
+mod moving;
 mod orders;
 mod pairs;
 mod searches;

@@ -14,7 +14,7 @@ use crate::keys::{Places, RankedKey, Shape, TermNumbers};
 use crate::lends::add_pair;
 use crate::steps::Steps;
 use chunked_list::Chunked;
-use mld_ops::Tagged;
+use mld_ops::PairRow;
 use std::alloc::{AllocError, Global};
 use std::cmp::Ordering;
 use std::marker::Model;
@@ -25,7 +25,7 @@ use std::sync::ledger::Ledger;
 pub struct KeyOrder<'a> {
     shape: Shape,
     keys: &'a Chunked<RankedKey>,
-    slots: &'a [Option<Tagged>],
+    slots: &'a [Option<PairRow>],
 }
 
 impl<'a> Model for KeyOrder<'a> {
@@ -43,7 +43,7 @@ impl<'a> Model for KeyOrder<'a> {
 pub(crate) fn order_of<'a>(
     shape: Shape,
     keys: &'a Chunked<RankedKey>,
-    slots: &'a [Option<Tagged>],
+    slots: &'a [Option<PairRow>],
 ) -> KeyOrder<'a>
     requires { IsOrder shape (keys_by shape keys.now.elements) slots.now }
     ensures { result ≡ record { shape = shape; keys = keys_by shape keys.now.elements; slots = slots.now } }
@@ -86,7 +86,7 @@ impl<'a> KeyOrder<'a> {
         from: usize,
         to: usize,
         steps: &mut Steps<L>,
-    ) -> Result<Vec<&'a Tagged>, AllocError>
+    ) -> Result<Vec<&'a PairRow>, AllocError>
         requires from { from ≤ to }
         requires to { to ≤ length self.now.keys }
         ensures pairs { IfOk result (λ found. map (λ x. x.now) found.items
@@ -174,10 +174,10 @@ fn compare_wanted(wanted: Option<u64>, number: u32, next: Ordering) -> Ordering
 // The pairs of keys. Each is a step.
 fn lend_pairs<'a, L: Ledger>(
     alloc: Global,
-    slots: &'a [Option<Tagged>],
+    slots: &'a [Option<PairRow>],
     keys: &[&RankedKey],
     steps: &mut Steps<L>,
-) -> Result<Vec<&'a Tagged>, AllocError>
+) -> Result<Vec<&'a PairRow>, AllocError>
     ensures pairs { IfOk result (λ found. map (λ x. x.now) found.items ≡ slot_pairs slots.now (map (λ key. key.now.slot) keys.now)) }
     ensures step { OnOk result (steps.new ≡ steps.old + length keys.now) }
     ensures most { steps.new ≤ steps.old + length keys.now }

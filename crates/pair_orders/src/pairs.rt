@@ -1,7 +1,7 @@
 //! Pairs by their numbers.
 ghost use Rattle.std.specs.Prelude.{◌≡◌, ◌<◌, ◌≤◌, ◌+◌, ◌*◌, ◌⊎◌, ◌↔◌, [], length, map, IsTrue, IfOk, OnOk};
 ghost use Rattle.std.specs.List.{filter};
-ghost use Rattle.mld_ops.specs.declared.tagged.Tagged.{Tagged};
+ghost use Rattle.mld_ops.specs.declared.pair_lists.PairRow.{PairRow};
 ghost use Rattle.tree_clock.specs.Lists.{Has};
 ghost use Rattle.pair_orders.specs.Keys.{has_places};
 ghost use Rattle.pair_orders.specs.Orders.{binary_digits, entries_with};
@@ -16,11 +16,12 @@ use crate::fronts::{BeforeFront, BehindTwo};
 use crate::keys::{Numbers, Places, Shape, TermNumbers};
 use crate::lends::{lend_chunks, lend_found};
 use crate::lists::{Lists, by_dot, keys_in, no_lists};
+use crate::moving::{move_all, slots_by_dot};
 use crate::orders::{KeyOrder, order_of};
 use crate::searches::{search, search_triples};
 use crate::slots::{Slots, no_slots};
 use crate::steps::Steps;
-use mld_ops::Tagged;
+use mld_ops::PairRow;
 use std::alloc::{AllocError, Global};
 use std::marker::Model;
 use std::sync::ledger::Ledger;
@@ -57,10 +58,10 @@ impl NumberedPairs {
     /// The pairs of a list in which no two have the same numbers, sorted once for each order.
     pub fn build(
         alloc: Global,
-        entries: Vec<(Numbers, Tagged)>,
+        entries: Vec<(Numbers, PairRow)>,
     ) -> Result<NumberedPairs, AllocError>
         requires { StandOnce (map (λ entry. entry.0) entries.items) }
-        ensures { IfOk result (λ made. (entry : Numbers × Tagged) → Has made.pairs entry ↔ Has entries.items entry) }
+        ensures { IfOk result (λ made. (entry : Numbers × PairRow) → Has made.pairs entry ↔ Has entries.items entry) }
     {
         let mut slots = no_slots(alloc);
         let keys = fill_slots(alloc, &mut slots, entries)?;
@@ -86,9 +87,9 @@ impl NumberedPairs {
     }
 
     /// Puts a pair in, unless one with these numbers is there. It takes no memory.
-    pub fn insert(&mut self, numbers: Numbers, pair: Tagged)
+    pub fn insert(&mut self, numbers: Numbers, pair: PairRow)
         requires { 0 < self.old.room }
-        ensures members { (other : Numbers × Tagged) → Has self.new.pairs other
+        ensures members { (other : Numbers × PairRow) → Has self.new.pairs other
             ↔ (Has self.old.pairs other ⊎ ((other ≡ (numbers, pair)) × ¬ HasNumbers self.old.pairs numbers)) }
         ensures room { self.old.room ≤ self.new.room + 1 }
     {
@@ -97,7 +98,7 @@ impl NumberedPairs {
 
     /// Takes out the pair with these numbers, if it is there. It takes no memory.
     pub fn remove(&mut self, numbers: &Numbers)
-        ensures members { (other : Numbers × Tagged) → Has self.new.pairs other
+        ensures members { (other : Numbers × PairRow) → Has self.new.pairs other
             ↔ (Has self.old.pairs other × ¬ (other.0 ≡ numbers.now)) }
         ensures room { self.old.room ≤ self.new.room }
     {
@@ -125,7 +126,7 @@ impl NumberedPairs {
         path: u32,
         first: u32,
         last: u32,
-    ) -> Result<Vec<&Tagged>, AllocError>
+    ) -> Result<Vec<&PairRow>, AllocError>
         ensures found { IfOk result (λ found. map (λ x. x.now) found.items
             ≡ map (λ entry. entry.1) (filter (λ entry. is_of_ticks path first last entry.0) self.now.pairs)) }
         ensures once { StandOnce (map (λ entry. entry.0) self.now.pairs) }
@@ -142,12 +143,23 @@ impl NumberedPairs {
     }
 
     /// All pairs, by dot.
-    pub fn lend_all(&self, alloc: Global) -> Result<Vec<&Tagged>, AllocError>
+    pub fn lend_all(&self, alloc: Global) -> Result<Vec<&PairRow>, AllocError>
         ensures pairs { IfOk result (λ found. map (λ x. x.now) found.items ≡ map (λ entry. entry.1) self.now.pairs) }
         ensures once { StandOnce (map (λ entry. entry.0) self.now.pairs) }
     {
         let dots = by_dot(&self.lists);
         lend_chunks(alloc, &self.slots.pairs, dots.chunks(), dots.len())
+    }
+
+    /// The pairs alone, by dot. Keys are let go first, so that the list is made beside the slots.
+    pub fn into_rows(self, alloc: Global) -> Result<Vec<PairRow>, AllocError>
+        ensures pairs { IfOk result (λ list. list.items ≡ map (λ entry. entry.1) self.pairs) }
+        ensures once { StandOnce (map (λ entry. entry.0) self.pairs) }
+    {
+        let NumberedPairs { slots, lists } = self;
+        let numbers = slots_by_dot(alloc, lists)?;
+        let Slots { pairs, free: _ } = slots;
+        move_all(alloc, pairs, &numbers)
     }
 
     /// The pairs that have the wanted numbers of terms, each once, in whatever order. They are found by halves.
@@ -156,7 +168,7 @@ impl NumberedPairs {
         alloc: Global,
         wanted: &Places,
         steps: &mut Steps<L>,
-    ) -> Result<Vec<&Tagged>, AllocError>
+    ) -> Result<Vec<&PairRow>, AllocError>
         ensures found { IfOk result (λ found. FindsEntries (has_places wanted.now) self.now.pairs (map (λ x. x.now) found.items)) }
         ensures bound { steps.new ≤ steps.old + 2 * binary_digits (length self.now.pairs)
             + length (entries_with wanted.now self.now.pairs) + 2 }
@@ -191,7 +203,7 @@ impl NumberedPairs {
     /// The pairs in an order.
     pub fn order(&self, shape: Shape) -> KeyOrder<'_>
         ensures shape { result.shape ≡ shape }
-        ensures entries { (entry : Numbers × Tagged) → Has (entries_of result.slots result.keys) entry ↔ Has self.now.pairs entry }
+        ensures entries { (entry : Numbers × PairRow) → Has (entries_of result.slots result.keys) entry ↔ Has self.now.pairs entry }
         ensures once { StandOnce (map (λ entry. entry.0) (entries_of result.slots result.keys)) }
         ensures length { length result.keys ≡ length self.now.pairs }
     {

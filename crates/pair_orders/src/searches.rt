@@ -10,7 +10,7 @@ ghost use Rattle.pair_orders.specs.declared.keys.Key.{Key};
 use crate::keys::{Places, TermNumbers};
 use crate::orders::KeyOrder;
 use crate::steps::Steps;
-use mld_ops::Tagged;
+use mld_ops::PairRow;
 use std::alloc::{AllocError, Global};
 use std::cmp::Ordering;
 use std::sync::ledger::Ledger;
@@ -21,7 +21,7 @@ pub fn search<'a, L: Ledger>(
     order: &KeyOrder<'a>,
     wanted: &Places,
     steps: &mut Steps<L>,
-) -> Result<Vec<&'a Tagged>, AllocError>
+) -> Result<Vec<&'a PairRow>, AllocError>
     requires { LeadsIn order.now.shape wanted.now }
     ensures found { IfOk result (λ found. map (λ x. x.now) found.items
         ≡ map (λ entry. entry.1) (entries_with wanted.now (entries_of order.now.slots order.now.keys))) }

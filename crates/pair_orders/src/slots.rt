@@ -6,14 +6,14 @@ ghost use Rattle.pair_orders.specs.SlotLimit.{slots_limit};
 ghost use Rattle.pair_orders.specs.KeptPairs.{AreSlots, PutsAt};
 
 use crate::limits::SLOTS_LIMIT;
-use mld_ops::Tagged;
+use mld_ops::PairRow;
 use std::alloc::{AllocError, Global};
 
 /// Slots for pairs.
 #[derive(Drop)]
 pub(crate) struct Slots {
     /// The pair in each, where one is there.
-    pub(crate) pairs: Vec<Option<Tagged>>,
+    pub(crate) pairs: Vec<Option<PairRow>>,
     /// The numbers of the empty ones.
     pub(crate) free: Vec<u32>,
 }
@@ -31,7 +31,7 @@ pub(crate) fn no_slots(alloc: Global) -> Slots
 }
 
 /// The pair in a slot.
-pub(crate) fn pair_in(slots: &[Option<Tagged>], slot: u32) -> Option<&Tagged>
+pub(crate) fn pair_in(slots: &[Option<PairRow>], slot: u32) -> Option<&PairRow>
     ensures { option_copied result ≡ slot_at slots.now slot }
 {
     let slot = slot as usize;
@@ -42,7 +42,7 @@ pub(crate) fn pair_in(slots: &[Option<Tagged>], slot: u32) -> Option<&Tagged>
 }
 
 /// Puts a pair into an empty slot, whose number it gives. It takes no memory.
-pub(crate) fn take_slot(slots: &mut Slots, pair: Tagged) -> u32
+pub(crate) fn take_slot(slots: &mut Slots, pair: PairRow) -> u32
     requires is { AreSlots slots.old }
     requires free { 0 < vec_len slots.old.free }
     ensures is { AreSlots slots.new }

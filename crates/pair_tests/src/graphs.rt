@@ -2,7 +2,7 @@
 ghost use Rattle.std.specs.Prelude.{◌≡◌, ◌<◌};
 
 use crate::made::{boxed, boxed_pair, graph, pairs};
-use graph_index::{Graph, PairSet, Steps};
+use graph_index::{Graph, LentPairs, PairSet, Steps};
 use mld_ops::{Cut, Tagged, Tags};
 use rdf_terms::{Iri, Term, Triple, read_triple};
 use std::alloc::{AllocError, Global};
@@ -46,11 +46,23 @@ fn have_ticks(pairs: &[Tagged], ticks: &[u32]) -> bool {
 // Whether the graph lends as many pairs as it has, and these in order.
 fn lends(alloc: Global, graph: &Graph, pairs: &[Tagged]) -> Result<bool, AllocError> {
     let lent = graph.in_order(alloc)?;
-    let same = pairs
-        .iter()
-        .zip(lent.iter())
-        .all(|(own, there)| own.cmp(*there).is_eq());
-    Ok(graph.count() == lent.len() && same)
+    let mut same = graph.count() == lent.len();
+    for (at, own) in pairs.iter().enumerate() {
+        same = is_lent(&lent, at, own) && same;
+    }
+    Ok(same)
+}
+
+// Whether a pair is lent at a place.
+fn is_lent(lent: &LentPairs<'_>, at: usize, own: &Tagged) -> bool {
+    let triple = lent
+        .triple(at)
+        .is_some_and(|triple| own.triple.cmp(triple).is_eq());
+    let dot = match lent.get(at) {
+        Some(there) => own.dot == there.dot,
+        None => false,
+    };
+    triple && dot
 }
 
 // Whether the graph has these ticks, in order.
@@ -109,10 +121,12 @@ fn scanned_in<L: Ledger>(
     }
 }
 
-fn sum_of_ticks(found: &[&Tagged]) -> u32 {
+fn sum_of_ticks(found: &LentPairs<'_>) -> u32 {
     let mut sum = 0_u32;
-    for pair in found {
-        sum = sum.wrapping_add(pair.dot.tick);
+    for at in 0..found.len() {
+        if let Some(pair) = found.get(at) {
+            sum = sum.wrapping_add(pair.dot.tick);
+        }
     }
     sum
 }

@@ -18,3 +18,5 @@ mod lists;
 mod made;
 #[cfg(test)]
 mod numbers;
+#[cfg(test)]
+mod sorting;

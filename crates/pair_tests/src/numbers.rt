@@ -3,6 +3,7 @@ ghost use Rattle.std.specs.Prelude.{◌≡◌, ℕ, take, drop};
 ghost use Rattle.chunked_list.specs.Leading.{leading};
 ghost use Rattle.pair_tests.specs.ByteTexts.{four_bytes};
 
+use chunked_list::hinted_chunks::TextOrder;
 use chunked_list::{Bound, Keyed, Order, Test};
 use std::cmp::Ordering;
 use std::marker::Model;
@@ -91,6 +92,33 @@ impl Order<Number> for BySize {
 
     fn compare(&self, a: &Number, b: &Number) -> Ordering {
         a.value.cmp(&b.value)
+    }
+}
+
+impl TextOrder<Number> for BySize {
+    ghost use Rattle.std.proofs.Common.{◌∙◌, sym};
+    ghost use Rattle.std.specs.Ordering.{nat_cmp};
+    ghost use Rattle.std.proofs.lemmas.Cmp.{nat_cmp_total};
+    ghost use Rattle.pair_tests.specs.ByteTexts.{bytes_compared, four_bytes};
+
+    ghost order = { λ _. nat_cmp };
+
+    ghost text = { λ _. four_bytes };
+
+    ghost total = { λ _. nat_cmp_total };
+
+    ghost by_text = { λ _ a b r n e. sym (bytes_compared a b) ∙ e };
+
+    fn compare(&self, a: &Number, b: &Number) -> Ordering {
+        a.value.cmp(&b.value)
+    }
+
+    fn shared(&self, a: &Number, b: &Number) -> usize {
+        shared_bytes(a.value, b.value)
+    }
+
+    fn hint(&self, number: &Number, place: usize) -> u64 {
+        bytes_from(number.value, place)
     }
 }
 

@@ -1,5 +1,5 @@
 -- The pairs of a triple's subject and property, and the values that an effect spares.
-use Rattle.std.proofs.Common.{◌≡◌, ◌∙◌, ℕ, ◌<◌, List, [], ◌∷◌, length, get_or, map, Bool, true, false, not, ◌&&◌, nat_eq, None, Some, IsTrue, ◌↔◌, refl, sym, ap, subst, inl, inr}
+use Rattle.std.proofs.Common.{◌≡◌, ◌∙◌, ℕ, zero, suc, ◌<◌, List, [], ◌∷◌, length, get_or, slice_get, Bool, true, false, not, ◌&&◌, nat_eq, None, Some, IsTrue, ◌↔◌, refl, sym, ap, subst, inl, inr, arith}
 use Rattle.std.proofs.lemmas.Bool.{and_parts, and_from, false≢true}
 use Rattle.std.proofs.lemmas.Cmp.{tied_itself}
 use Rattle.std.specs.Bool.{Decides}
@@ -93,19 +93,30 @@ module _ (pairs found : List Tagged) (effect : EffectValue) (triple : Triple) (e
       ))
       (record { differs = λ e. h.is.differs (sym (ap (λ (t : Triple). t.o) q.is) ∙ e); stands = q.spared })
 
--- ---- a list of loans
+-- ---- a list by its places
 
--- what holds of no element holds of no image
-pub none_of : {X Y : Type 0} (f : X → Y) (P : Y → Type 0) (xs : List X) → AllByRecursion (λ x. ¬ P (f x)) xs → (y : Y) → Has (map f xs) y → ¬ P y
-none_of f P [] none y h = absurd h
-none_of f P (x ∷ xs) none y (inl e) = λ p. none.0 (subst P (sym e) p)
-none_of f P (x ∷ xs) none y (inr h) = none_of f P xs none.1 y h
+-- what stands at a place
+pub at_place : {X : Type 0} (xs : List X) (i : ℕ) → i < length xs → (x : X) × (slice_get xs i ≡ Some x) × (x ≡ get_or xs i x)
+at_place [] i l = absurd (omega (arith, l))
+at_place (x ∷ xs) zero l = (x, refl, refl)
+at_place (x ∷ xs) (suc i) l = let there = at_place xs i (omega (arith, l)) in (there.0, there.1, there.2)
 
-has_image : {X Y : Type 0} (f : X → Y) (xs : List X) (x : X) → Has xs x → Has (map f xs) (f x)
-has_image f [] x h = absurd h
-has_image f (y ∷ xs) x (inl e) = inl (ap f e)
-has_image f (y ∷ xs) x (inr h) = inr (has_image f xs x h)
+pub has_there : {X : Type 0} (xs : List X) (i : ℕ) (x : X) → i < length xs → x ≡ get_or xs i x → Has xs x
+has_there xs i x l e = subst (Has xs) (sym e) (has_at xs i x l)
 
--- the image of the element at a place
-pub image_at : {X Y : Type 0} (f : X → Y) (xs : List X) (i : ℕ) (x : X) → i < length xs → x ≡ get_or xs i x → Has (map f xs) (f x)
-image_at f xs i x l e = has_image f xs x (subst (Has xs) (sym e) (has_at xs i x l))
+-- what holds of no element
+pub none_of : {X : Type 0} (P : X → Type 0) (xs : List X) → AllByRecursion (λ x. ¬ P x) xs → (y : X) → Has xs y → ¬ P y
+none_of P [] none y h = absurd h
+none_of P (x ∷ xs) none y (inl e) = λ p. none.0 (subst P (sym e) p)
+none_of P (x ∷ xs) none y (inr h) = none_of P xs none.1 y h
+
+pub some_there : {X : Type 0} (x y : X) → Some x ≡ Some y → x ≡ y
+some_there x y e = cc
+
+pub none_there : {X : Type 0} (x : X) → None ≡ Some x → ⊥
+none_there x e = cc
+
+-- what is not false is true
+pub told : (is : Bool) → ¬ (¬ IsTrue is) → IsTrue is
+told true n = refl
+told false n = absurd (n (λ t. false≢true t))

@@ -7,7 +7,7 @@ ghost use Rattle.suset.specs.SnapshotJoin.{CoversAll, IsJoinedWith};
 ghost use Rattle.tree_clock.specs.Lists.{IsAscending};
 
 use crate::sets::TaggedSet;
-use mld_ops::{Snapshot, Tagged};
+use mld_ops::{PairList, Snapshot, Tagged};
 use std::alloc::{AllocError, Global};
 use tree_clock::Clock;
 
@@ -23,7 +23,8 @@ pub fn join(
         (λ new. IsJoinedWith clock.now.ticks set.now (snapshot_value snapshot.now) new.0.ticks new.1) }
     ensures covered { CoversAll clock.now.ticks set.now → IfOk result (λ new. CoversAll new.0.ticks new.1) }
 {
-    let pairs = set.join(alloc, clock, &snapshot.tagged, &snapshot.clock)?;
+    let theirs = snapshot.tagged.to_list(alloc)?;
+    let pairs = set.join(alloc, clock, &theirs, &snapshot.clock)?;
     let mut both = clock.copy_in(alloc)?;
     both.merge(&snapshot.clock)?;
     Ok((both, pairs))
@@ -39,6 +40,6 @@ pub fn of_state(alloc: Global, clock: &Clock, list: Vec<Tagged>) -> Result<Snaps
 {
     Ok(Snapshot {
         clock: clock.copy_in(alloc)?,
-        tagged: list,
+        tagged: PairList::from_list(alloc, clock, list)?,
     })
 }

@@ -1,4 +1,4 @@
-use Rattle.std.proofs.Common.{◌≡◌, ◌∙◌, List, refl, subst}
+use Rattle.std.proofs.Common.{◌≡◌, List, refl, subst}
 use Rattle.mld_ops.specs.declared.tagged.Tagged.{Tagged}
 use Rattle.mld_ops.specs.Applies.{Applies}
 use Rattle.clone_parts.specs.Plans.{PlansReleases, left_of}
@@ -14,7 +14,7 @@ returns-clause-released c =
     let plan = c.release_held.new.plan in
     let left = c.in_ok-left.left in
     let new = c.apply.new.self.pairs in
-    let same : c.in_ok-pairs.pairs.pairs ≡ pairs = c.in_ok-pairs.ensures ∙ c.in_ok-list.ensures in
+    let same : c.in_ok-pairs.pairs.pairs ≡ pairs = c.in_ok-pairs.ensures in
     let applies = subst (λ (ps : List Tagged). Applies plan.drops plan.adds ps new) same
     (subst (λ (drops : List Tagged). Applies drops plan.adds c.in_ok-pairs.pairs.pairs new) c.in_ok-cut.ensures.drops
     (subst (λ (adds : List Tagged). Applies cut.drops.items adds c.in_ok-pairs.pairs.pairs new) c.in_ok-cut.ensures.adds

@@ -7,8 +7,9 @@ use Rattle.graph_index.proofs.graphs.apply_to_parts.Goals as goal
 
 pub returns-clause-pairs : goal.returns-clause-pairs
 returns-clause-pairs c =
+    let paths = c.args.parts.now.tables.paths in
     let old = c.args.parts.now.numbered.pairs in
     let lost = c.lose_all.new.numbered.pairs in
-    applied old lost c.gain_all.new.numbered.pairs c.args.cut.drops.items c.args.cut.adds.items (in_order_of (pairs_of old)) refl
-    (subst (λ (drops : List Tagged). (pair : Tagged) → Has (pairs_of lost) pair ↔ (Has (pairs_of old) pair × ¬ Has drops pair)) c.deref.ensures.value c.lose_all.ensures.members)
+    applied paths old lost c.gain_all.new.numbered.pairs c.args.cut.drops.items c.args.cut.adds.items (in_order_of (pairs_of paths old)) refl
+    (subst (λ (drops : List Tagged). (pair : Tagged) → Has (pairs_of paths lost) pair ↔ (Has (pairs_of paths old) pair × ¬ Has drops pair)) c.deref.ensures.value c.lose_all.ensures.members)
     c.gain_all.ensures.members

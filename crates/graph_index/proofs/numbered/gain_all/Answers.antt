@@ -16,5 +16,5 @@ loop-pair-preserved c = record {
   numbered = c.gain.ensures.numbered;
   adds = λ pair h. c.loop-pair.invariant.adds pair (subst (λ (zs : List Tagged). Has zs pair) (sym c.in-Some.ensures.items) (has_left c.pop.new.self.items (c.in-Some.pair ∷ []) pair h));
   room = omega (arith, c.gain.ensures.room, c.in-Some.ensures.cases, c.loop-pair.invariant.room);
-  members = come_more (pairs_of c.args.numbered.now.pairs) c.args.adds.items (pairs_of c.loop-pair.numbered.pairs) (pairs_of c.gain.new.numbered.pairs) c.pop.new.self.items c.loop-pair.rest.items c.in-Some.pair c.in-Some.ensures.items c.loop-pair.invariant.members c.gain.ensures.members;
+  members = come_more (pairs_of c.args.tables.now.paths c.args.numbered.now.pairs) c.args.adds.items (pairs_of c.args.tables.now.paths c.loop-pair.numbered.pairs) (pairs_of c.args.tables.now.paths c.gain.new.numbered.pairs) c.pop.new.self.items c.loop-pair.rest.items c.in-Some.pair c.in-Some.ensures.items c.loop-pair.invariant.members c.gain.ensures.members;
 }

@@ -10,7 +10,7 @@ invariant-loop-pair l = record {
   numbered : HaveOwnNumbers l.tables l.numbered.pairs;
   adds : (pair : Tagged) → Has l.rest.items pair → IsNumbered l.tables pair;
   room : vec_len l.rest ≤ l.numbered.room;
-  members : (pair : Tagged) → (Has (pairs_of l.numbered.pairs) pair ⊎ Has l.rest.items pair) ↔ (Has (pairs_of l.initial.numbered.pairs) pair ⊎ Has l.initial.rest.items pair);
+  members : (pair : Tagged) → (Has (pairs_of l.tables.paths l.numbered.pairs) pair ⊎ Has l.rest.items pair) ↔ (Has (pairs_of l.tables.paths l.initial.numbered.pairs) pair ⊎ Has l.initial.rest.items pair);
 }
 
 abbrev pub decreases-loop-pair : goal.decreases-loop-pair

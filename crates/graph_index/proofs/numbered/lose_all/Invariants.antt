@@ -8,6 +8,6 @@ use Rattle.graph_index.proofs.numbered.lose_all.Given as goal
 abbrev pub invariant-loop-drop : goal.invariant-loop-drop
 invariant-loop-drop l = record {
   numbered : HaveOwnNumbers l.tables l.numbered.pairs;
-  members : (pair : Tagged) → Has (pairs_of l.numbered.pairs) pair ↔ (Has (pairs_of l.initial.numbered.pairs) pair × ¬ Has (take l.drop-index l.drops) pair);
+  members : (pair : Tagged) → Has (pairs_of l.tables.paths l.numbered.pairs) pair ↔ (Has (pairs_of l.tables.paths l.initial.numbered.pairs) pair × ¬ Has (take l.drop-index l.drops) pair);
   room : l.initial.numbered.room ≤ l.numbered.room;
 }

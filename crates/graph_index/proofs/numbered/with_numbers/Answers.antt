@@ -30,5 +30,5 @@ loop-pair-preserved c =
         | inl m ↦ c.loop-pair.invariant.apart pair (behind pair h) m
         | inr e ↦ front.1 (subst (λ (w : Tagged). Has c.pop.new.self.items w) e h)
       ];
-      members = come_more (pairs_of c.in_ok-entries.entries.items) c.args.list.items (pairs_of c.loop-pair.entries.items) (pairs_of c.add_entry.new.entries.items) c.pop.new.self.items c.loop-pair.rest.items c.in-Some.pair c.in-Some.ensures.items c.loop-pair.invariant.members c.in_ok-add_entry.ensures.members;
+      members = come_more (pairs_of c.args.tables.now.paths c.in_ok-entries.entries.items) c.args.list.items (pairs_of c.args.tables.now.paths c.loop-pair.entries.items) (pairs_of c.args.tables.now.paths c.add_entry.new.entries.items) c.pop.new.self.items c.loop-pair.rest.items c.in-Some.pair c.in-Some.ensures.items c.loop-pair.invariant.members c.in_ok-add_entry.ensures.members;
     }

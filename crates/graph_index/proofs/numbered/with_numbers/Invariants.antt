@@ -13,8 +13,8 @@ invariant-loop-pair l = record {
   once : StandOnce (map (λ entry. entry.0) l.entries.items);
   rest_once : HasNoRepeat l.rest.items;
   numbered : (pair : Tagged) → Has l.rest.items pair → IsNumbered l.tables pair;
-  apart : (pair : Tagged) → Has l.rest.items pair → ¬ Has (pairs_of l.entries.items) pair;
-  members : (pair : Tagged) → (Has (pairs_of l.entries.items) pair ⊎ Has l.rest.items pair) ↔ (Has (pairs_of l.initial.entries.items) pair ⊎ Has l.initial.rest.items pair);
+  apart : (pair : Tagged) → Has l.rest.items pair → ¬ Has (pairs_of l.tables.paths l.entries.items) pair;
+  members : (pair : Tagged) → (Has (pairs_of l.tables.paths l.entries.items) pair ⊎ Has l.rest.items pair) ↔ (Has (pairs_of l.tables.paths l.initial.entries.items) pair ⊎ Has l.initial.rest.items pair);
 }
 
 abbrev pub decreases-loop-pair : goal.decreases-loop-pair

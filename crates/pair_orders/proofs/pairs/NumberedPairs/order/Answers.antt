@@ -1,5 +1,5 @@
 use Rattle.std.proofs.Common.{◌≡◌, ◌↔◌, List, Option, IsSome, length, map, ap, subst, sym}
-use Rattle.mld_ops.specs.declared.tagged.Tagged.{Tagged}
+use Rattle.mld_ops.specs.declared.pair_lists.PairRow.{PairRow}
 use Rattle.tree_clock.specs.Lists.{Has}
 use Rattle.pair_orders.specs.Keys.{keys_by, slot_at}
 use Rattle.pair_orders.specs.KeptPairs.{dots_in}
@@ -14,7 +14,7 @@ use Rattle.pair_orders.proofs.pairs.NumberedPairs.order.Goals as goal
 pub order_of-requires : goal.order_of-requires
 order_of-requires c = record {
   ascending = ascending_keys c.args.shape c.keys_in.result.now.elements c.keys_in.ensures.ascending;
-  occupied = λ key h. subst (λ (xs : List (Option Tagged)). IsSome (slot_at xs key.slot)) (sym c.as_slice.ensures.value) (c.self.invariant.held.occupied key ((c.keys_in.ensures.same key).0 h));
+  occupied = λ key h. subst (λ (xs : List (Option PairRow)). IsSome (slot_at xs key.slot)) (sym c.as_slice.ensures.value) (c.self.invariant.held.occupied key ((c.keys_in.ensures.same key).0 h));
 }
 
 pub returns-clause-shape : goal.returns-clause-shape
@@ -22,7 +22,7 @@ returns-clause-shape c = ap (λ (o : OrderValue). o.shape) c.order_of.ensures
 
 pub returns-clause-entries : goal.returns-clause-entries
 returns-clause-entries c =
-    subst (λ (o : OrderValue). (entry : Numbers × Tagged) → Has (entries_of o.slots o.keys) entry ↔ Has c.args.self.now.pairs entry) (sym c.order_of.ensures)
+    subst (λ (o : OrderValue). (entry : Numbers × PairRow) → Has (entries_of o.slots o.keys) entry ↔ Has c.args.self.now.pairs entry) (sym c.order_of.ensures)
     (order_entries c.self.inside.slots.pairs.items c.as_slice.result.now (keys_by c.args.shape c.keys_in.result.now.elements) (dots_in c.self.inside.lists) c.args.self.now.pairs c.as_slice.ensures.value (ap (λ v. v.pairs) c.self.view_is)
     c.keys_in.ensures.same)
 
