@@ -1,26 +1,26 @@
 -- What is asked of rows is so of a group's solutions, whatever the order of the rows is, and where each is to stand once, however often it does.
-use Rattle.std.proofs.Common.{◌≡◌, ◌∙◌, ℕ, ◌⊎◌, ◌↔◌, List, [], ◌∷◌, Bool, true, false, ◌||◌, Option, map, drop, refl, sym, ap, subst, inl, inr, true≢false}
+use Rattle.std.proofs.Common.{◌≡◌, ◌∙◌, ℕ, zero, suc, ◌⊎◌, ◌↔◌, List, [], ◌∷◌, Bool, true, false, ◌||◌, Option, None, Some, map, take, drop, refl, sym, ap, subst, inl, inr, true≢false}
 use Rattle.std.specs.List.{list_any}
 use Rattle.std.specs.Cmp.Lexicographic.{slice_cmp}
 use Rattle.std.proofs.lemmas.Bool.{or_cases}
-use Rattle.rdf_terms.specs.declared.terms.Term.{Term}
-use Rattle.rdf_terms.specs.declared.terms.Triple.{Triple}
-use Rattle.tree_clock.specs.Lists.{Has}
-use Rattle.graph_index.proofs.Sorting.{same_members}
-use Rattle.jrql_ast.specs.declared.answers.Answer.TheVariants as answers
-use Rattle.jrql_ast.specs.declared.answers.Described.{Described}
-use Rattle.jrql_ast.specs.declared.patterns.Group.{Group}
-use Rattle.jrql_ast.specs.declared.queries.Query.{Query}
-use Rattle.jrql_ast.specs.declared.queries.Select.{Select}
-use Rattle.jrql_ast.specs.declared.queries.Target.{Target}
-use Rattle.jrql_ast.specs.declared.queries.Target.TheVariants as targets
-use Rattle.jrql_ast.specs.declared.queries.What.{What}
-use Rattle.jrql_ast.specs.declared.queries.What.TheVariants as kinds
-use Rattle.jrql_ast.specs.QueryAnswers.{IsAnswer, IsAnswerBy, IsSelected, described, distinct_rows, found, is_iri_value, limited, project, reply_place_cmp, subjects_of, targets_iri}
-use Rattle.jrql_ast.specs.Solutions.{value_of}
-use Rattle.jrql_ast.proofs.OneAnswer.{replies_total}
+use Rattle.jrql_rows.specs.rdf_terms.declared.terms.Term.{Term}
+use Rattle.jrql_rows.specs.rdf_terms.declared.terms.Triple.{Triple}
+use Rattle.jrql_rows.specs.tree_clock.Lists.{Has}
+use Rattle.jrql_rows.proofs.of_graph_index.Sorting.{same_members}
+use Rattle.jrql_rows.specs.jrql_ast.declared.answers.Answer.TheVariants as answers
+use Rattle.jrql_rows.specs.jrql_ast.declared.answers.Described.{Described}
+use Rattle.jrql_rows.specs.jrql_ast.declared.patterns.Group.{Group}
+use Rattle.jrql_rows.specs.jrql_ast.declared.queries.Query.{Query}
+use Rattle.jrql_rows.specs.jrql_ast.declared.queries.Select.{Select}
+use Rattle.jrql_rows.specs.jrql_ast.declared.queries.Target.{Target}
+use Rattle.jrql_rows.specs.jrql_ast.declared.queries.Target.TheVariants as targets
+use Rattle.jrql_rows.specs.jrql_ast.declared.queries.What.{What}
+use Rattle.jrql_rows.specs.jrql_ast.declared.queries.What.TheVariants as kinds
+use Rattle.jrql_rows.specs.jrql_ast.QueryAnswers.{IsAnswer, IsAnswerBy, IsSelected, described, distinct_rows, found, is_iri_value, limited, project, reply_place_cmp, subjects_of, targets_iri}
+use Rattle.jrql_rows.specs.jrql_ast.Solutions.{value_of}
+use Rattle.jrql_rows.proofs.of_jrql_ast.OneAnswer.{replies_total}
 use Rattle.jrql_eval.specs.Asked.{IsDescribedBy, IsSelectedOf}
-use Rattle.jrql_eval.specs.KeptValues.{KeepsRows}
+use Rattle.jrql_rows.specs.KeptValues.{KeepsRows}
 use Rattle.jrql_eval.proofs.BranchLaws.{sorting_of}
 use Rattle.jrql_eval.proofs.DescribeLaws.{agree_tests, filter_alike, or_left, or_right}
 use Rattle.jrql_eval.proofs.SortedRows.{one_distinct, sorting_there}
@@ -98,3 +98,22 @@ pub subjects_answer : (graph : List Triple) (query : Query) (given : List Target
 subjects_answer graph query given rows subjects e m d =
     subst (λ (what : What). IsAnswerBy graph query.group what (answers.Subjects subjects)) (sym e)
     (described_alike (found graph query.group) rows (λ row. (λ h. (m row).1 (inr h), λ h. none_or ((m row).0 h))) graph given subjects d)
+
+-- some of the rows
+module _ {X Y : Type 0} (f : X → Y) where
+  map_taken : (n : ℕ) (xs : List X) → map f (take n xs) ≡ take n (map f xs)
+  map_taken zero xs = refl
+  map_taken (suc n) [] = refl
+  map_taken (suc n) (x ∷ xs) = ap (λ l. f x ∷ l) (map_taken n xs)
+
+  map_dropped : (n : ℕ) (xs : List X) → map f (drop n xs) ≡ drop n (map f xs)
+  map_dropped zero xs = refl
+  map_dropped (suc n) [] = refl
+  map_dropped (suc n) (x ∷ xs) = map_dropped n xs
+
+  map_limited : (limit : Option ℕ) (xs : List X) → map f (limited limit xs) ≡ limited limit (map f xs)
+  map_limited None xs = refl
+  map_limited (Some n) xs = map_taken n xs
+
+  pub map_cut : (limit : Option ℕ) (offset : ℕ) (xs : List X) → map f (limited limit (drop offset xs)) ≡ limited limit (drop offset (map f xs))
+  map_cut limit offset xs = map_limited limit (drop offset xs) ∙ ap (limited limit) (map_dropped offset xs)

@@ -5,21 +5,21 @@ use Rattle.std.proofs.lemmas.List.Concat.{flat_map-append, flat_map_single}
 use Rattle.std.proofs.lemmas.List.Elements.{filter-append}
 use Rattle.std.proofs.lemmas.List.Folds.{flat_map-map}
 use Rattle.std.proofs.lemmas.List.Sorted.{IsPermutation-append, IsPermutation-refl, IsPermutation-trans}
-use Rattle.rdf_terms.specs.declared.terms.Term.{Term}
-use Rattle.rdf_terms.specs.declared.terms.Triple.{Triple}
-use Rattle.jrql_ast.specs.declared.patterns.Filter.{Filter}
-use Rattle.jrql_ast.specs.declared.patterns.Group.{Group}
-use Rattle.jrql_ast.specs.declared.patterns.PatternTriple.{PatternTriple}
-use Rattle.jrql_ast.specs.InForm.{variables_of}
-use Rattle.jrql_ast.specs.QueryAnswers.{IsSortingOf, IsSolutions, found, row_cmp}
-use Rattle.jrql_ast.specs.Solutions.{agree, branches_of, matches_from, unbound}
-use Rattle.jrql_ast.proofs.Permuted.{matches_permuted}
-use Rattle.jrql_ast.proofs.Rearranging.{filter_permutes, flat_map_same, flat_map_turned}
+use Rattle.jrql_rows.specs.rdf_terms.declared.terms.Term.{Term}
+use Rattle.jrql_rows.specs.rdf_terms.declared.terms.Triple.{Triple}
+use Rattle.jrql_rows.specs.jrql_ast.declared.patterns.Filter.{Filter}
+use Rattle.jrql_rows.specs.jrql_ast.declared.patterns.Group.{Group}
+use Rattle.jrql_rows.specs.jrql_ast.declared.patterns.PatternTriple.{PatternTriple}
+use Rattle.jrql_rows.specs.jrql_ast.InForm.{variables_of}
+use Rattle.jrql_rows.specs.jrql_ast.QueryAnswers.{IsSortingOf, IsSolutions, found, row_cmp}
+use Rattle.jrql_rows.specs.jrql_ast.Solutions.{agree, branches_of, matches_from, unbound}
+use Rattle.jrql_rows.proofs.of_jrql_ast.Permuted.{matches_permuted}
+use Rattle.jrql_rows.proofs.of_jrql_ast.Rearranging.{filter_permutes, flat_map_same, flat_map_turned}
 use Rattle.std.specs.declared.cmp.Ordering.{Ordering}
 use Rattle.jrql_plans.specs.declared.plans.BranchPlan.{BranchPlan}
 use Rattle.jrql_plans.specs.declared.plans.GroupPlan.{GroupPlan}
 use Rattle.jrql_plans.specs.PlannedGroups.{ArePermutations, IsPlanFor, planned, planned_behind, planned_in, planned_once}
-use Rattle.jrql_eval.specs.ColumnOrder.{AreColumnsOf}
+use Rattle.jrql_rows.specs.ColumnOrder.{AreColumnsOf}
 use Rattle.jrql_eval.specs.Evaluating.{all_hold, ended_by}
 
 filter_flat_map : {X Y : Type 0} (p : Y → Bool) (f : X → List Y) (xs : List X) → filter p (flat_map f xs) ≡ flat_map (λ x. filter p (f x)) xs

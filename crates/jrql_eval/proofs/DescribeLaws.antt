@@ -12,28 +12,27 @@ use Rattle.std.proofs.lemmas.List.Elements.{filter_map-append}
 use Rattle.std.specs.Option.{option_to_list}
 use Rattle.std.proofs.lemmas.Slice.Eq.{bytes_eq-Decides}
 use Rattle.std.proofs.lemmas.Map.Views.{tells_apart}
-use Rattle.rdf_terms.specs.declared.terms.Term.{Term}
-use Rattle.rdf_terms.specs.declared.terms.Term.TheVariants as terms
-use Rattle.rdf_terms.specs.declared.terms.Triple.{Triple}
-use Rattle.rdf_terms.specs.Literal.{is_same}
-use Rattle.rdf_terms.specs.Order.{iri_cmp, triple_cmp}
-use Rattle.rdf_terms.specs.OrderLaws.{term_exact}
-use Rattle.tree_clock.specs.Lists.{Has, IsAscending}
-use Rattle.mld_ops.specs.InOrder.{IsPutInOrder}
-use Rattle.mld_ops.proofs.AscendingLaws.{has_append, has_left, has_right, has_filter, ascending_filter, same_ascending}
-use Rattle.mld_ops.proofs.Keeping.{once_ascends, once_members}
-use Rattle.mld_ops.proofs.PropertiesLaws.{iri_total, iri_exact}
-use Rattle.jrql_ast.specs.declared.answers.Described.{Described}
-use Rattle.jrql_ast.specs.declared.queries.Target.{Target}
-use Rattle.jrql_ast.specs.declared.queries.Target.TheVariants as targets
-use Rattle.jrql_ast.specs.QueryAnswers.{described, is_iri_value, subjects_of, targets_iri}
-use Rattle.jrql_ast.specs.Solutions.{is_same_term, value_of}
+use Rattle.jrql_rows.specs.rdf_terms.declared.terms.Term.{Term}
+use Rattle.jrql_rows.specs.rdf_terms.declared.terms.Term.TheVariants as terms
+use Rattle.jrql_rows.specs.rdf_terms.declared.terms.Triple.{Triple}
+use Rattle.jrql_rows.specs.rdf_terms.Literal.{is_same}
+use Rattle.jrql_rows.specs.rdf_terms.Order.{iri_cmp, triple_cmp}
+use Rattle.jrql_rows.specs.rdf_terms.OrderLaws.{term_exact}
+use Rattle.jrql_rows.specs.tree_clock.Lists.{Has, IsAscending}
+use Rattle.jrql_rows.specs.mld_ops.InOrder.{IsPutInOrder}
+use Rattle.jrql_rows.proofs.of_mld_ops.AscendingLaws.{has_append, has_left, has_right, has_filter, ascending_filter, same_ascending}
+use Rattle.jrql_rows.proofs.of_mld_ops.Keeping.{once_ascends, once_members}
+use Rattle.jrql_rows.proofs.of_mld_ops.PropertiesLaws.{iri_total, iri_exact}
+use Rattle.jrql_rows.specs.jrql_ast.declared.answers.Described.{Described}
+use Rattle.jrql_rows.specs.jrql_ast.declared.queries.Target.{Target}
+use Rattle.jrql_rows.specs.jrql_ast.declared.queries.Target.TheVariants as targets
+use Rattle.jrql_rows.specs.jrql_ast.QueryAnswers.{described, is_iri_value, subjects_of, targets_iri}
+use Rattle.jrql_rows.specs.jrql_ast.Solutions.{is_same_term, value_of}
 use Rattle.jrql_eval.specs.Asked.{IsDescribedBy, all_targeted, bound_iris, described_by, described_where, targeted_by}
-use Rattle.graph_index.specs.Graphs.{GraphValue}
-use Rattle.jrql_eval.specs.Bindings.{row_numbered}
+use Rattle.jrql_rows.specs.graph_index.Graphs.{GraphValue}
+use Rattle.jrql_rows.specs.Bindings.{row_numbered}
 use Rattle.jrql_eval.specs.Evaluating.{has_parts, iri_of_term}
-use Rattle.jrql_eval.specs.KeptValues.{rows_numbered}
-use Rattle.jrql_ast.proofs.BoundSlots.{same_refl, some_is, none_some}
+use Rattle.jrql_rows.proofs.of_jrql_ast.BoundSlots.{same_refl, some_is, none_some}
 
 is_there : {X : Type 0} → List X → Bool
 is_there [] = false
@@ -226,14 +225,12 @@ described_are graph rows targets (first ∷ others) some put =
     )))
 
 -- the IRIs of one row more
-pub bound_more_numbered : {A : Type 0} (graph : GraphValue) (variable : ℕ) (rows : List (Vec (Option ℕ) A)) (i : ℕ) (row : Vec (Option ℕ) A) → i < length rows → row ≡ get_or rows i row
-    → bound_iris variable (rows_numbered graph (take (i + 1) rows))
-    ≡ bound_iris variable (rows_numbered graph (take i rows)) ++ option_to_list (iri_of_term (value_of variable (row_numbered graph row.items)))
-bound_more_numbered {A} graph variable rows i row l is =
-    ap (λ (z : List (Vec (Option ℕ) A)). bound_iris variable (rows_numbered graph z)) (take_more rows i row l ∙ ap (λ (z : Vec (Option ℕ) A). take i rows ++ z ∷ []) (sym is))
-    ∙ ap (bound_iris variable) (map-append (λ (n : Vec (Option ℕ) A). row_numbered graph n.items) (take i rows) (row ∷ []))
-    ∙ filter_map-append (λ r. iri_of_term (value_of variable r)) (rows_numbered graph (take i rows)) (row_numbered graph row.items ∷ [])
-    ∙ ap (λ zs. bound_iris variable (rows_numbered graph (take i rows)) ++ zs) (one (iri_of_term (value_of variable (row_numbered graph row.items))))
+pub bound_more : (variable : ℕ) (rows : List (List (Option Term))) (i : ℕ) → i < length rows
+    → bound_iris variable (take (i + 1) rows) ≡ bound_iris variable (take i rows) ++ option_to_list (iri_of_term (value_of variable (get_or rows i [])))
+bound_more variable rows i l =
+    ap (bound_iris variable) (take_more rows i [] l)
+    ∙ filter_map-append (λ r. iri_of_term (value_of variable r)) (take i rows) (get_or rows i [] ∷ [])
+    ∙ ap (λ zs. bound_iris variable (take i rows) ++ zs) (one (iri_of_term (value_of variable (get_or rows i []))))
   where
     one : (o : Option (List ℕ)) → cons_option o [] ≡ option_to_list o
     one None = refl

@@ -9,11 +9,11 @@ use Rattle.std.proofs.lemmas.Bool.{cases_Bool}
 use Rattle.std.proofs.lemmas.List.Sorted.{IsPermutation-refl, IsPermutation-sym, IsPermutation-trans, IsPermutation-cons, IsPermutation-middle}
 use Rattle.std.proofs.lemmas.Map.Lookups.{CmpEqualImpliesEq}
 use Rattle.std.proofs.lemmas.Map.Views.{tells_apart}
-use Rattle.tree_clock.specs.Lists.{Has, IsAscending}
-use Rattle.mld_ops.proofs.AscendingLaws.{below_member, has_right, not_below_itself}
-use Rattle.mld_ops.proofs.Keeping.{once_members}
-use Rattle.graph_index.specs.Matching.{StandTogether}
-use Rattle.graph_index.proofs.Sorting.{image_has}
+use Rattle.jrql_rows.specs.tree_clock.Lists.{Has, IsAscending}
+use Rattle.jrql_rows.proofs.of_mld_ops.AscendingLaws.{below_member, has_right, not_below_itself}
+use Rattle.jrql_rows.proofs.of_mld_ops.Keeping.{once_members}
+use Rattle.jrql_rows.specs.graph_index.Matching.{StandTogether}
+use Rattle.jrql_rows.proofs.of_graph_index.Sorting.{image_has}
 
 -- no value stands twice in the list
 abbrev pub StandOnce : {X : Type 0} → List X → Type 0

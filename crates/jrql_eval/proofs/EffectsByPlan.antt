@@ -3,26 +3,26 @@ use Rattle.std.proofs.Common.{◌≡◌, ◌↔◌, ℕ, ◌≤◌, List, [], �
 use Rattle.std.proofs.lemmas.List.Sorted.{length_permutation}
 use Rattle.std.proofs.lemmas.Map.Views.{tells_apart}
 use Rattle.std.specs.Cmp.{eq_by_cmp_equiv}
-use Rattle.rdf_terms.specs.declared.terms.Term.{Term}
-use Rattle.rdf_terms.specs.declared.terms.Triple.{Triple}
-use Rattle.rdf_terms.specs.Order.{triple_cmp}
-use Rattle.rdf_terms.specs.OrderLaws.{triple_total, triple_exact}
-use Rattle.tree_clock.specs.declared.dots.Dot.{Dot}
-use Rattle.tree_clock.specs.Lists.{Has}
-use Rattle.mld_ops.specs.declared.tagged.Tagged.{Tagged}
-use Rattle.mld_ops.specs.Tagged.{tagged_cmp}
-use Rattle.mld_ops.specs.Effects.{EffectValue, IsEffectOf}
-use Rattle.mld_ops.specs.InOrder.{IsPutInOrder}
-use Rattle.mld_ops.specs.Present.{present}
-use Rattle.mld_ops.proofs.AscendingLaws.{has_append, has_left, has_right, has_filter, same_ascending}
-use Rattle.mld_ops.proofs.TaggedLaws.{tagged_total, tagged_exact}
-use Rattle.graph_index.specs.Matching.{is_of}
-use Rattle.jrql_ast.specs.declared.patterns.Group.{Group}
-use Rattle.jrql_ast.specs.declared.plans.UpdatePlan.{UpdatePlan}
-use Rattle.jrql_ast.specs.QueryAnswers.{IsSolutions, found, solution_limit}
-use Rattle.jrql_ast.specs.Templates.{made_from}
-use Rattle.jrql_ast.proofs.OneSolutions.{one_solutions}
-use Rattle.jrql_ast.specs.FreshNames.{fresh_name}
+use Rattle.jrql_rows.specs.rdf_terms.declared.terms.Term.{Term}
+use Rattle.jrql_rows.specs.rdf_terms.declared.terms.Triple.{Triple}
+use Rattle.jrql_rows.specs.rdf_terms.Order.{triple_cmp}
+use Rattle.jrql_rows.specs.rdf_terms.OrderLaws.{triple_total, triple_exact}
+use Rattle.jrql_rows.specs.tree_clock.declared.dots.Dot.{Dot}
+use Rattle.jrql_rows.specs.tree_clock.Lists.{Has}
+use Rattle.jrql_rows.specs.mld_ops.declared.tagged.Tagged.{Tagged}
+use Rattle.jrql_rows.specs.mld_ops.Tagged.{tagged_cmp}
+use Rattle.jrql_rows.specs.mld_ops.Effects.{EffectValue, IsEffectOf}
+use Rattle.jrql_rows.specs.mld_ops.InOrder.{IsPutInOrder}
+use Rattle.jrql_rows.specs.mld_ops.Present.{present}
+use Rattle.jrql_rows.proofs.of_mld_ops.AscendingLaws.{has_append, has_left, has_right, has_filter, same_ascending}
+use Rattle.jrql_rows.proofs.of_mld_ops.TaggedLaws.{tagged_total, tagged_exact}
+use Rattle.jrql_rows.specs.graph_index.Matching.{is_of}
+use Rattle.jrql_rows.specs.jrql_ast.declared.patterns.Group.{Group}
+use Rattle.jrql_rows.specs.jrql_ast.declared.plans.UpdatePlan.{UpdatePlan}
+use Rattle.jrql_rows.specs.jrql_ast.QueryAnswers.{IsSolutions, found, solution_limit}
+use Rattle.jrql_rows.specs.jrql_ast.Templates.{made_from}
+use Rattle.jrql_rows.proofs.of_jrql_ast.OneSolutions.{one_solutions}
+use Rattle.jrql_rows.specs.jrql_ast.FreshNames.{fresh_name}
 use Rattle.jrql_eval.specs.ConstantTemplates.{AreMadeBy}
 use Rattle.jrql_eval.specs.PlanEffects.{ArePairsOfAny, IsEffectBy, OneEffect}
 

@@ -1,34 +1,35 @@
 -- What is kept of rows that are found, one list of them after another.
 use Rattle.std.proofs.Common.{◌≡◌, ◌∙◌, ℕ, zero, suc, ◌+◌, ◌<◌, ◌≤◌, ◌⊎◌, List, [], ◌∷◌, ◌++◌, Bool, true, false, Option, None, Some, Result, Ok, Err, Bor, length, get_or, map, take, flat_map, refl, sym, ap, subst, inl, inr, append_assoc, append-nil, length-append, map-id, take_all, arith}
 use Rattle.std.specs.List.Sorted.{IsPermutation}
-use Rattle.std.specs.Option.{option_and_then, option_copied}
+use Rattle.std.specs.Option.{option_and_then}
 use Rattle.std.proofs.lemmas.Bool.{true≢false}
 use Rattle.std.proofs.lemmas.List.{map-append, take_more}
 use Rattle.std.specs.Prelude.{IsSome, is_some}
 use Rattle.std.proofs.lemmas.List.Concat.{flat_map-append}
 use Rattle.std.proofs.lemmas.List.Folds.{flat_map-map, length-flat_map-take}
 use Rattle.std.proofs.lemmas.List.Sorted.{IsPermutation-map, IsPermutation-trans, IsPermutation-append_left, IsPermutation-append_right, length_permutation}
-use Rattle.rdf_terms.specs.declared.terms.Term.{Term}
-use Rattle.rdf_terms.specs.declared.terms.Triple.{Triple}
-use Rattle.tree_clock.specs.Lists.{Has}
-use Rattle.mld_ops.specs.Present.{present}
-use Rattle.mld_ops.proofs.AscendingLaws.{has_append, has_left, has_right}
-use Rattle.graph_index.specs.Graphs.{GraphValue}
-use Rattle.graph_index.specs.Numbered.{triple_numbered, TermNumbers}
-use Rattle.graph_index.proofs.Sorting.{same_members}
-use Rattle.jrql_ast.specs.declared.patterns.PatternTriple.{PatternTriple}
-use Rattle.jrql_ast.specs.QueryAnswers.{solution_limit}
-use Rattle.jrql_ast.specs.Solutions.{agree}
-use Rattle.jrql_ast.proofs.Rearranging.{same_list}
+use Rattle.jrql_rows.specs.rdf_terms.declared.terms.Term.{Term}
+use Rattle.jrql_rows.specs.rdf_terms.declared.terms.Triple.{Triple}
+use Rattle.jrql_rows.specs.tree_clock.Lists.{Has}
+use Rattle.jrql_rows.specs.mld_ops.Present.{present}
+use Rattle.jrql_rows.proofs.of_mld_ops.AscendingLaws.{has_append, has_left, has_right}
+use Rattle.jrql_rows.specs.graph_index.Graphs.{GraphValue}
+use Rattle.jrql_rows.specs.graph_index.Numbered.{triple_numbered, TermNumbers}
+use Rattle.jrql_rows.proofs.of_graph_index.Sorting.{same_members}
+use Rattle.jrql_rows.specs.jrql_ast.declared.patterns.PatternTriple.{PatternTriple}
+use Rattle.jrql_rows.specs.jrql_ast.QueryAnswers.{project, solution_limit}
+use Rattle.jrql_rows.specs.jrql_ast.Solutions.{agree}
+use Rattle.jrql_rows.proofs.of_jrql_ast.Rearranging.{same_list}
 use Rattle.jrql_eval.specs.declared.faults.EvalFault.{EvalFault}
 use Rattle.jrql_eval.specs.declared.faults.EvalFault.TheVariants.{TooMany, NoMemory}
-use Rattle.jrql_eval.specs.declared.kept.Kept.{Kept}
+use Rattle.jrql_eval.specs.FoundTriples.{FindsFor}
+use Rattle.jrql_eval.specs.KeptFound.{KeepsEachFound, KeepsFound, agree_numbered}
+use Rattle.jrql_rows.specs.Bindings.{BindingsValue, IsBinding}
+use Rattle.jrql_rows.specs.KeptValues.{KeepsEach, KeepsRows, KeptValue, nothing_kept}
 use Rattle.jrql_plans.specs.declared.plans.PatternStage.{PatternStage}
 use Rattle.jrql_eval.specs.declared.searching.Ending.{Ending}
-use Rattle.jrql_eval.specs.Bindings.{BindingsValue, FindsFor}
-use Rattle.jrql_eval.specs.Evaluating.{IsBinding, led_from, led_to}
-use Rattle.jrql_eval.specs.KeptValues.{IsEmptyKept, KeepsFound, KeepsEachFound, KeepsRows, agree_numbered, rows_numbered, rows_of, taken}
-use Rattle.jrql_eval.proofs.NumberedRows.{some_there}
+use Rattle.jrql_eval.specs.Evaluating.{led_from, led_to}
+use Rattle.jrql_rows.proofs.NumberedRows.{some_there}
 use Rattle.jrql_eval.proofs.SearchSteps.{led_by}
 
 -- ---- rows with others added
@@ -74,62 +75,61 @@ rows_more true old added mid more new p q = λ row. (λ h. there row ((q row).0 
     back row (inr h) = later row (has_append added more row h)
 
 -- ---- what is kept
-pub keeps_nothing : (old : Kept) (added : List (List (Option Term))) → old.count ≤ solution_limit → added ≡ [] → KeepsEachFound old added old
+pub keeps_nothing : (old : KeptValue) (added : List (List (Option Term))) → old.count ≤ solution_limit → added ≡ [] → KeepsEachFound old added old
 keeps_nothing old added few e = subst (λ (l : List (List (Option Term))). KeepsEachFound old l old) (sym e) (record {
-  graph = refl;
-  columns = refl;
-  distinct = refl;
-  count = omega arith;
+  keeps = record { graph = refl; columns = refl; distinct = refl; count = omega arith; rows = rows_none old.distinct old.rows };
   few = few;
-  rows = rows_none old.distinct (rows_of old);
 })
 
-pub keeps_same : {X : Type 0} (old : Kept) (added others : List (List (Option Term))) (result : Result X EvalFault) (new : Kept) → added ≡ others → KeepsFound old added result new → KeepsFound old others result new
+pub keeps_same : {X : Type 0} (old : KeptValue) (added others : List (List (Option Term))) (result : Result X EvalFault) (new : KeptValue) → added ≡ others → KeepsFound old added result new → KeepsFound old others result new
 keeps_same old added others result new e k = subst (λ (l : List (List (Option Term))). KeepsFound old l result new) e k
 
-pub keeps_moved : {X : Type 0} (old : Kept) (added others : List (List (Option Term))) (result : Result X EvalFault) (new : Kept) → IsPermutation added others
+pub keeps_moved : {X : Type 0} (old : KeptValue) (added others : List (List (Option Term))) (result : Result X EvalFault) (new : KeptValue) → IsPermutation added others
     → KeepsFound old others result new → KeepsFound old added result new
 keeps_moved old added others (Ok done) new p k =
     let e = length_permutation added others p in
-    let c = k.count in record {
-      graph = k.graph;
-      columns = k.columns;
-      distinct = k.distinct;
-      count = omega (arith, e, c);
+    let c = k.keeps.count in record {
+      keeps = record {
+        graph = k.keeps.graph;
+        columns = k.keeps.columns;
+        distinct = k.keeps.distinct;
+        count = omega (arith, e, c);
+        rows = rows_moved old.distinct old.rows (map (project old.columns) added) (map (project old.columns) others) new.rows (IsPermutation-map (project old.columns) added others p) k.keeps.rows;
+      };
       few = k.few;
-      rows = rows_moved old.distinct (rows_of old) (map (taken (option_copied old.columns)) added) (map (taken (option_copied old.columns)) others) (rows_of new)
-          (IsPermutation-map (taken (option_copied old.columns)) added others p) k.rows;
     }
 keeps_moved old added others (Err TooMany) new p k = let e = length_permutation added others p in omega (arith, k, e)
 keeps_moved old added others (Err NoMemory) new p k = tt
 
-pub keeps_more : (old : Kept) (added : List (List (Option Term))) (mid : Kept) (more : List (List (Option Term))) (new : Kept) → KeepsEachFound old added mid → KeepsEachFound mid more new
+pub keeps_more : (old : KeptValue) (added : List (List (Option Term))) (mid : KeptValue) (more : List (List (Option Term))) (new : KeptValue) → KeepsEachFound old added mid → KeepsEachFound mid more new
     → KeepsEachFound old (added ++ more) new
 keeps_more old added mid more new j k =
-    let taking = taken (option_copied old.columns) in
-    let a = j.count in
-    let b = k.count in
+    let taking = project old.columns in
+    let a = j.keeps.count in
+    let b = k.keeps.count in
     let both = length-append added more in
-    let behind : KeepsRows old.distinct (rows_of mid) (map taking more) (rows_of new) =
-    subst (λ (c : Option (List ℕ)). KeepsRows old.distinct (rows_of mid) (map (taken c) more) (rows_of new)) (ap (λ o. option_copied o) j.columns)
-    (subst (λ (d : Bool). KeepsRows d (rows_of mid) (map (taken (option_copied mid.columns)) more) (rows_of new)) j.distinct k.rows)
+    let behind : KeepsRows old.distinct mid.rows (map taking more) new.rows =
+    subst (λ (c : List ℕ). KeepsRows old.distinct mid.rows (map (project c) more) new.rows) j.keeps.columns
+    (subst (λ (d : Bool). KeepsRows d mid.rows (map (project mid.columns) more) new.rows) j.keeps.distinct k.keeps.rows)
     in record {
-      graph = k.graph ∙ j.graph;
-      columns = k.columns ∙ j.columns;
-      distinct = k.distinct ∙ j.distinct;
-      count = omega (arith, a, b, both);
+      keeps = record {
+        graph = k.keeps.graph ∙ j.keeps.graph;
+        columns = k.keeps.columns ∙ j.keeps.columns;
+        distinct = k.keeps.distinct ∙ j.keeps.distinct;
+        count = omega (arith, a, b, both);
+        rows = subst (λ (l : List (List (Option Term))). KeepsRows old.distinct old.rows l new.rows) (sym (map-append taking added more))
+            (rows_more old.distinct old.rows (map taking added) mid.rows (map taking more) new.rows j.keeps.rows behind);
+      };
       few = k.few;
-      rows = subst (λ (l : List (List (Option Term))). KeepsRows old.distinct (rows_of old) l (rows_of new)) (sym (map-append taking added more))
-          (rows_more old.distinct (rows_of old) (map taking added) (rows_of mid) (map taking more) (rows_of new) j.rows behind);
     }
 
-keeps_fault : (old : Kept) (added : List (List (Option Term))) (mid : Kept) (more all : List (List (Option Term))) (new : Kept) (fault : EvalFault) → KeepsEachFound old added mid
+keeps_fault : (old : KeptValue) (added : List (List (Option Term))) (mid : KeptValue) (more all : List (List (Option Term))) (new : KeptValue) (fault : EvalFault) → KeepsEachFound old added mid
     → length added + length more ≤ length all → KeepsFound {X = Unit {0}} mid more (Err fault) new → KeepsFound {X = Unit {0}} old all (Err fault) new
-keeps_fault old added mid more all new TooMany j l k = let a = j.count in omega (arith, a, l, k)
+keeps_fault old added mid more all new TooMany j l k = let a = j.keeps.count in omega (arith, a, l, k)
 keeps_fault old added mid more all new NoMemory j l k = tt
 
 -- ---- in a loop: the lists of one element after another
-module _ {E : Type 0} (f : E → List (List (Option Term))) (xs : List E) (i : ℕ) (d x : E) (old mid new : Kept) (l : i < length xs) (is : x ≡ get_or xs i d) (j : KeepsEachFound old (flat_map f (take i xs)) mid) where
+module _ {E : Type 0} (f : E → List (List (Option Term))) (xs : List E) (i : ℕ) (d x : E) (old mid new : KeptValue) (l : i < length xs) (is : x ≡ get_or xs i d) (j : KeepsEachFound old (flat_map f (take i xs)) mid) where
   one_more : flat_map f (take (i + 1) xs) ≡ flat_map f (take i xs) ++ f x
   one_more =
       ap (flat_map f) (take_more xs i d l ∙ ap (λ z. take i xs ++ z ∷ []) (sym is))
@@ -146,10 +146,10 @@ module _ {E : Type 0} (f : E → List (List (Option Term))) (xs : List E) (i : �
       keeps_fault old (flat_map f (take i xs)) mid (f x) (flat_map f xs) new fault j (omega (arith, all, here)) k
 
 -- the first of them, and all
-pub keeps_start : {E : Type 0} (f : E → List (List (Option Term))) (xs : List E) (old : Kept) → old.count ≤ solution_limit → KeepsEachFound old (flat_map f (take 0 xs)) old
+pub keeps_start : {E : Type 0} (f : E → List (List (Option Term))) (xs : List E) (old : KeptValue) → old.count ≤ solution_limit → KeepsEachFound old (flat_map f (take 0 xs)) old
 keeps_start f xs old few = keeps_nothing old (flat_map f (take 0 xs)) few refl
 
-pub keeps_each : {E : Type 0} (f : E → List (List (Option Term))) (xs : List E) (i : ℕ) (old new : Kept) → length xs ≤ i → KeepsEachFound old (flat_map f (take i xs)) new → KeepsEachFound old (flat_map f xs) new
+pub keeps_each : {E : Type 0} (f : E → List (List (Option Term))) (xs : List E) (i : ℕ) (old new : KeptValue) → length xs ≤ i → KeepsEachFound old (flat_map f (take i xs)) new → KeepsEachFound old (flat_map f xs) new
 keeps_each {E} f xs i old new l k = subst (λ (z : List E). KeepsEachFound old (flat_map f z) new) (take_all i xs l) k
 
 -- ---- triples by numbers
@@ -173,7 +173,7 @@ there_from f (n ∷ found) (triple ∷ triples) e zero d l = ap is_some (ap some
 there_from f (n ∷ found) (triple ∷ triples) e (suc k) d l = there_from f found triples (ap some_tail e) k d (omega (arith, l))
 
 -- what is found of a pattern leads to what the graph does
-pub keeps_led : {X : Type 0} (ending : Ending) (stage : PatternStage) (rest : List PatternStage) (row : BindingsValue) (found : List TermNumbers) (old new : Kept) (result : Result X EvalFault)
+pub keeps_led : {X : Type 0} (ending : Ending) (stage : PatternStage) (rest : List PatternStage) (row : BindingsValue) (found : List TermNumbers) (old new : KeptValue) (result : Result X EvalFault)
     → FindsFor stage.pattern.now row found
     → KeepsFound old (flat_map (λ numbers. led_from (present row.graph.pairs) ending stage rest (agree_numbered row.graph stage.pattern.now row.row numbers)) found) result new
     → KeepsFound old (led_to (present row.graph.pairs) ending (stage ∷ rest) row.row) result new
@@ -219,21 +219,19 @@ module _ (pattern : PatternTriple) (numbers : TermNumbers) (row : BindingsValue)
       ∙ binding_lost (agree pattern there.0 row.row) next (subst (λ (z : Bool). IsBinding (agree pattern there.0 row.row) z next) f (bound there.0 there.1))
 
 -- ---- from nothing on
-module _ (graph : GraphValue) (columns : Option (List ℕ)) (distinct : Bool) (start : Kept) (found : List (List (Option Term))) (e : IsEmptyKept graph columns distinct start) where
-  pub found_rows : (kept : Kept) → KeepsEachFound start found kept → KeepsRows distinct [] (map (taken columns) found) (rows_numbered graph kept.rows.items)
-  found_rows kept k =
-      subst (λ (g : GraphValue). KeepsRows distinct [] (map (taken columns) found) (rows_numbered g kept.rows.items)) (ap (λ (g : Bor GraphValue). g.now) k.graph ∙ e.graph_is)
-      (subst (λ (l : List (List (Option Term))). KeepsRows distinct l (map (taken columns) found) (rows_of kept)) (ap (rows_numbered start.graph.now) e.rows)
-      (subst (λ (c : Option (List ℕ)). KeepsRows distinct (rows_of start) (map (taken c) found) (rows_of kept)) e.columns_are
-      (subst (λ (b : Bool). KeepsRows b (rows_of start) (map (taken (option_copied start.columns)) found) (rows_of kept)) e.distinct_is k.rows)))
+module _ (graph : GraphValue) (columns : List ℕ) (distinct : Bool) (start : KeptValue) (found : List (List (Option Term))) (e : start ≡ nothing_kept graph columns distinct) where
+  keeps_all : (kept : KeptValue) → KeepsEachFound start found kept → KeepsEach (nothing_kept graph columns distinct) found kept
+  keeps_all kept k = subst (λ (s : KeptValue). KeepsEach s found kept) e k.keeps
 
-  pub found_few : (kept : Kept) → KeepsEachFound start found kept → length found ≤ solution_limit
-  found_few kept k = let n = e.count in let c = k.count in let f = k.few in omega (arith, n, c, f)
+  pub found_rows : (kept : KeptValue) → KeepsEachFound start found kept → KeepsRows distinct [] (map (project columns) found) kept.rows
+  found_rows kept k = let all = keeps_all kept k in all.rows
+
+  pub found_few : (kept : KeptValue) → KeepsEachFound start found kept → length found ≤ solution_limit
+  found_few kept k =
+      let all = keeps_all kept k in
+      let n = all.count in
+      let f = k.few in
+      omega (arith, n, f)
 
   pub found_many : solution_limit < start.count + length found → solution_limit < length found
-  found_many h = let n = e.count in omega (arith, n, h)
-
-pub all_taken : (graph : GraphValue) (start : Kept) (found : List (List (Option Term))) (kept : Kept) → IsEmptyKept graph None false start → KeepsEachFound start found kept
-    → IsPermutation found (rows_numbered graph kept.rows.items)
-all_taken graph start found kept e k =
-    subst (λ (l : List (List (Option Term))). IsPermutation l (rows_numbered graph kept.rows.items)) (map-id found) (found_rows graph None false start found e kept k)
+  found_many h = let n = ap (λ (s : KeptValue). s.count) e in omega (arith, n, h)

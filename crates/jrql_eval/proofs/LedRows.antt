@@ -1,25 +1,13 @@
--- What a stage's checks lead to, and a sort that went well.
+-- What a stage's checks lead to.
 use Rattle.std.proofs.Common.{◌≡◌, ◌∙◌, List, [], ◌∷◌, ◌++◌, Bool, Option, Some, Result, Ok, Err, Bor, OnOk, if◌then◌else◌, map, filter, flat_map, ap, subst, arith}
-use Rattle.std.specs.List.Sorted.{IsPermutation, IsSortedBy}
-use Rattle.std.specs.Ordering.{is_lt}
-use Rattle.std.proofs.lemmas.List.Sorted.{IsPermutation-map}
-use Rattle.graph_index.proofs.Sorting.{view_sorted}
-use Rattle.std.specs.declared.cmp.Ordering.{Ordering}
-use Rattle.rdf_terms.specs.declared.terms.Term.{Term}
-use Rattle.rdf_terms.specs.declared.terms.Triple.{Triple}
-use Rattle.jrql_ast.specs.declared.patterns.PatternTriple.{PatternTriple}
-use Rattle.jrql_ast.specs.QueryAnswers.{IsSortingOf}
-use Rattle.jrql_ast.specs.Solutions.{matches_from}
+use Rattle.jrql_rows.specs.rdf_terms.declared.terms.Term.{Term}
+use Rattle.jrql_rows.specs.rdf_terms.declared.terms.Triple.{Triple}
+use Rattle.jrql_rows.specs.jrql_ast.declared.patterns.PatternTriple.{PatternTriple}
+use Rattle.jrql_rows.specs.jrql_ast.Solutions.{matches_from}
 use Rattle.jrql_plans.specs.declared.plans.PatternStage.{PatternStage}
 use Rattle.jrql_plans.specs.PlannedGroups.{AreBranchesReady, AreReady, checks_of, planned}
 use Rattle.jrql_eval.specs.declared.searching.Ending.{Ending}
 use Rattle.jrql_eval.specs.Evaluating.{all_hold, ended_by, led_to, led_from}
-
--- a sort that went well, by what each element is an image of
-pub sorting_viewed : {X Y A E S : Type 0} (f : X → Y) (order : Y → Y → Ordering) (old new : List X) (result : Result A E) → IsPermutation old new → OnOk result S
-    → (S → IsSortedBy (λ a b. is_lt (order (f a) (f b))) new) → OnOk result (IsSortingOf order (map f old) (map f new))
-sorting_viewed f order old new (Ok done) same told sorted = record { same = IsPermutation-map f old new same; ascending = view_sorted f order new (sorted told) }
-sorting_viewed f order old new (Err e) same told sorted = tt
 
 -- what a stage checks is there, or isn't
 pub led_checked : (graph : List Triple) (ending : Ending) (stage : PatternStage) (stages : List PatternStage) (o : Option (List (Option Term))) (next : List (Option Term)) → o ≡ Some next

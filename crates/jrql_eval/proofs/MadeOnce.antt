@@ -2,14 +2,14 @@
 use Rattle.std.proofs.Common.{◌≡◌, ◌∙◌, ℕ, ◌+◌, List, [], ◌∷◌, ◌++◌, ◌↔◌, ◌⊎◌, Option, None, Some, true, ◌&&◌, not, take, filter, filter_map, refl, sym, ap, subst, inl, inr}
 use Rattle.std.specs.List.{cons_option}
 use Rattle.std.proofs.lemmas.Bool.{and_parts, cases_Bool, true≢false}
-use Rattle.rdf_terms.specs.declared.terms.Term.{Term}
-use Rattle.rdf_terms.specs.declared.terms.Triple.{Triple}
-use Rattle.tree_clock.specs.Lists.{Has}
-use Rattle.mld_ops.proofs.AscendingLaws.{has_append, has_left, has_right, has_filter}
-use Rattle.jrql_ast.specs.declared.patterns.PatternTriple.{PatternTriple}
-use Rattle.jrql_ast.specs.declared.patterns.Slot.{Slot}
-use Rattle.jrql_ast.specs.declared.patterns.Slot.TheVariants as slots
-use Rattle.jrql_ast.specs.Templates.{slot_for, triple_from, made_for, made_from}
+use Rattle.jrql_rows.specs.rdf_terms.declared.terms.Term.{Term}
+use Rattle.jrql_rows.specs.rdf_terms.declared.terms.Triple.{Triple}
+use Rattle.jrql_rows.specs.tree_clock.Lists.{Has}
+use Rattle.jrql_rows.proofs.of_mld_ops.AscendingLaws.{has_append, has_left, has_right, has_filter}
+use Rattle.jrql_rows.specs.jrql_ast.declared.patterns.PatternTriple.{PatternTriple}
+use Rattle.jrql_rows.specs.jrql_ast.declared.patterns.Slot.{Slot}
+use Rattle.jrql_rows.specs.jrql_ast.declared.patterns.Slot.TheVariants as slots
+use Rattle.jrql_rows.specs.jrql_ast.Templates.{slot_for, triple_from, made_for, made_from}
 use Rattle.jrql_eval.specs.ConstantTemplates.{is_fixed, is_constant, AreMadeBy}
 
 -- ---- what is made of the members of a list, where something is

@@ -4,14 +4,14 @@ use Rattle.std.specs.List.{range_with_len}
 use Rattle.std.specs.List.Sorted.{IsPermutation}
 use Rattle.std.proofs.lemmas.Bool.{and_parts}
 use Rattle.std.proofs.lemmas.List.Sorted.{IsPermutation-refl}
-use Rattle.rdf_terms.specs.declared.terms.Term.{Term}
-use Rattle.rdf_terms.specs.declared.terms.Triple.{Triple}
-use Rattle.jrql_ast.specs.declared.patterns.Filter.{Filter}
-use Rattle.jrql_ast.specs.declared.patterns.Group.{Group}
-use Rattle.jrql_ast.specs.declared.patterns.PatternTriple.{PatternTriple}
-use Rattle.jrql_ast.specs.InForm.{variables_of}
-use Rattle.jrql_ast.specs.QueryAnswers.{IsSolutions, found, solution_limit}
-use Rattle.jrql_ast.specs.Solutions.{branches_of, matches_from}
+use Rattle.jrql_rows.specs.rdf_terms.declared.terms.Term.{Term}
+use Rattle.jrql_rows.specs.rdf_terms.declared.terms.Triple.{Triple}
+use Rattle.jrql_rows.specs.jrql_ast.declared.patterns.Filter.{Filter}
+use Rattle.jrql_rows.specs.jrql_ast.declared.patterns.Group.{Group}
+use Rattle.jrql_rows.specs.jrql_ast.declared.patterns.PatternTriple.{PatternTriple}
+use Rattle.jrql_rows.specs.jrql_ast.InForm.{variables_of}
+use Rattle.jrql_rows.specs.jrql_ast.QueryAnswers.{IsSolutions, found, solution_limit}
+use Rattle.jrql_rows.specs.jrql_ast.Solutions.{branches_of, matches_from}
 use Rattle.jrql_eval.specs.Evaluating.{all_hold, asks_nothing}
 use Rattle.jrql_eval.proofs.BranchLaws.{ended_none}
 

@@ -2,22 +2,22 @@
 use Rattle.std.proofs.Common.{◌≡◌, ◌∙◌, ℕ, List, [], ◌∷◌, ◌↔◌, Bool, true, false, ◌&&◌, Option, None, Some, IsTrue, if◌then◌else◌, map, filter_map, filter, refl, sym, ap, subst}
 use Rattle.std.specs.Option.{option_map_or}
 use Rattle.std.specs.List.Sorted.{IsPermutation}
-use Rattle.rdf_terms.specs.declared.terms.Term.{Term}
-use Rattle.rdf_terms.specs.declared.terms.Term.TheVariants as terms
-use Rattle.rdf_terms.specs.declared.terms.Triple.{Triple}
-use Rattle.tree_clock.specs.Lists.{IsAscending}
-use Rattle.mld_ops.specs.Present.{present}
-use Rattle.mld_ops.specs.Tagged.{tagged_cmp}
-use Rattle.mld_ops.proofs.PresentLaws.{has_present}
-use Rattle.graph_index.specs.Graphs.{GraphValue}
-use Rattle.graph_index.specs.Matching.{HasTriple}
-use Rattle.graph_index.specs.Numbered.{term_numbered, iri_of_term, triple_at, triple_numbered, is_wanted_term, has_wanted, Places, TermNumbers, AreAllNumbered, FindsNumbered}
-use Rattle.jrql_ast.specs.declared.patterns.PatternTriple.{PatternTriple}
-use Rattle.jrql_ast.specs.FilterMeaning.{side_value}
-use Rattle.jrql_ast.specs.Solutions.{agree, is_same_term}
-use Rattle.jrql_ast.proofs.BoundSlots.{same_refl, none_some, some_is, agree_before_s, agree_before_p, agree_before_o}
-use Rattle.jrql_ast.proofs.Rearranging.{same_list}
-use Rattle.jrql_eval.specs.Bindings.{IsPlaceOf, FindsFor}
+use Rattle.jrql_rows.specs.rdf_terms.declared.terms.Term.{Term}
+use Rattle.jrql_rows.specs.rdf_terms.declared.terms.Term.TheVariants as terms
+use Rattle.jrql_rows.specs.rdf_terms.declared.terms.Triple.{Triple}
+use Rattle.jrql_rows.specs.tree_clock.Lists.{IsAscending}
+use Rattle.jrql_rows.specs.mld_ops.Present.{present}
+use Rattle.jrql_rows.specs.mld_ops.Tagged.{tagged_cmp}
+use Rattle.jrql_rows.proofs.of_mld_ops.PresentLaws.{has_present}
+use Rattle.jrql_rows.specs.graph_index.Graphs.{GraphValue}
+use Rattle.jrql_rows.specs.graph_index.Matching.{HasTriple}
+use Rattle.jrql_rows.specs.graph_index.Numbered.{term_numbered, iri_of_term, triple_at, triple_numbered, is_wanted_term, has_wanted, Places, TermNumbers, AreAllNumbered, FindsNumbered}
+use Rattle.jrql_rows.specs.jrql_ast.declared.patterns.PatternTriple.{PatternTriple}
+use Rattle.jrql_rows.specs.jrql_ast.FilterMeaning.{side_value}
+use Rattle.jrql_rows.specs.jrql_ast.Solutions.{agree, is_same_term}
+use Rattle.jrql_rows.proofs.of_jrql_ast.BoundSlots.{same_refl, none_some, some_is, agree_before_s, agree_before_p, agree_before_o}
+use Rattle.jrql_rows.proofs.of_jrql_ast.Rearranging.{same_list}
+use Rattle.jrql_eval.specs.FoundTriples.{FindsFor, IsPlaceOf}
 use Rattle.jrql_plans.specs.PlannedGroups.{IsBoundIn}
 use Rattle.jrql_eval.specs.Evaluating.{instance_of}
 use Rattle.jrql_eval.proofs.Scanned.{none_unless, nothing_found, found_filtered, found_permuted}

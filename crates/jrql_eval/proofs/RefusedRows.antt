@@ -5,17 +5,17 @@ use Rattle.std.specs.Option.{option_map_or, option_zip}
 use Rattle.std.proofs.lemmas.Bool.{cases_Bool}
 use Rattle.std.proofs.lemmas.List.Concat.{flat_map_single}
 use Rattle.std.proofs.lemmas.List.Elements.{All-tail, filter-append}
-use Rattle.rdf_terms.specs.declared.terms.Term.{Term}
-use Rattle.rdf_terms.specs.declared.terms.Triple.{Triple}
-use Rattle.tree_clock.specs.Lists.{Has}
-use Rattle.jrql_ast.specs.declared.patterns.Filter.{Filter}
-use Rattle.jrql_ast.specs.declared.patterns.Group.{Group}
-use Rattle.jrql_ast.specs.declared.patterns.PatternTriple.{PatternTriple}
-use Rattle.jrql_ast.specs.FilterMeaning.{compares_so, holds, side_value}
-use Rattle.jrql_ast.specs.InForm.{variables_of}
-use Rattle.jrql_ast.specs.Solutions.{agree, branches_of, matches_from}
-use Rattle.jrql_ast.proofs.BoundSlots.{agree_later}
-use Rattle.jrql_ast.specs.QueryAnswers.{found}
+use Rattle.jrql_rows.specs.rdf_terms.declared.terms.Term.{Term}
+use Rattle.jrql_rows.specs.rdf_terms.declared.terms.Triple.{Triple}
+use Rattle.jrql_rows.specs.tree_clock.Lists.{Has}
+use Rattle.jrql_rows.specs.jrql_ast.declared.patterns.Filter.{Filter}
+use Rattle.jrql_rows.specs.jrql_ast.declared.patterns.Group.{Group}
+use Rattle.jrql_rows.specs.jrql_ast.declared.patterns.PatternTriple.{PatternTriple}
+use Rattle.jrql_rows.specs.jrql_ast.FilterMeaning.{compares_so, holds, side_value}
+use Rattle.jrql_rows.specs.jrql_ast.InForm.{variables_of}
+use Rattle.jrql_rows.specs.jrql_ast.Solutions.{agree, branches_of, matches_from}
+use Rattle.jrql_rows.proofs.of_jrql_ast.BoundSlots.{agree_later}
+use Rattle.jrql_rows.specs.jrql_ast.QueryAnswers.{found}
 use Rattle.jrql_plans.specs.declared.plans.BranchPlan.{BranchPlan}
 use Rattle.jrql_plans.specs.declared.plans.PatternStage.{PatternStage}
 use Rattle.jrql_plans.specs.PlannedGroups.{checks_of, planned, planned_behind}

@@ -7,19 +7,19 @@ use Rattle.std.specs.declared.cmp.Ordering.{Ordering}
 use Rattle.std.specs.declared.cmp.Ordering.TheVariants.{Less}
 use Rattle.std.proofs.lemmas.Bool.{cases_Bool}
 use Rattle.std.proofs.lemmas.List.Sorted.{IsPermutation-refl, IsPermutation-trans, IsPermutation-cons, IsPermutation-append_left, IsPermutation-append_comm}
-use Rattle.rdf_terms.specs.declared.terms.Term.{Term}
-use Rattle.rdf_terms.specs.declared.terms.Term.TheVariants as terms
-use Rattle.rdf_terms.specs.declared.terms.Triple.{Triple}
-use Rattle.rdf_terms.specs.Order.{triple_cmp}
-use Rattle.rdf_terms.specs.OrderLaws.{triple_total}
-use Rattle.tree_clock.specs.Lists.{Has, IsAscending}
-use Rattle.mld_ops.proofs.AscendingLaws.{below_member, not_below_itself}
-use Rattle.jrql_ast.specs.declared.patterns.PatternTriple.{PatternTriple}
-use Rattle.jrql_ast.specs.FilterMeaning.{side_value}
-use Rattle.jrql_ast.specs.Solutions.{agree, matches_from}
+use Rattle.jrql_rows.specs.rdf_terms.declared.terms.Term.{Term}
+use Rattle.jrql_rows.specs.rdf_terms.declared.terms.Term.TheVariants as terms
+use Rattle.jrql_rows.specs.rdf_terms.declared.terms.Triple.{Triple}
+use Rattle.jrql_rows.specs.rdf_terms.Order.{triple_cmp}
+use Rattle.jrql_rows.specs.rdf_terms.OrderLaws.{triple_total}
+use Rattle.jrql_rows.specs.tree_clock.Lists.{Has, IsAscending}
+use Rattle.jrql_rows.proofs.of_mld_ops.AscendingLaws.{below_member, not_below_itself}
+use Rattle.jrql_rows.specs.jrql_ast.declared.patterns.PatternTriple.{PatternTriple}
+use Rattle.jrql_rows.specs.jrql_ast.FilterMeaning.{side_value}
+use Rattle.jrql_rows.specs.jrql_ast.Solutions.{agree, matches_from}
 use Rattle.jrql_eval.specs.Evaluating.{instance_of, triple_at, iri_of_term}
-use Rattle.jrql_ast.proofs.Rearranging.{by_neighbours}
-use Rattle.jrql_ast.proofs.BoundSlots.{same_refl, none_some, some_is, agree_if_bound, agree_before_s, agree_before_p, agree_before_o}
+use Rattle.jrql_rows.proofs.of_jrql_ast.Rearranging.{by_neighbours}
+use Rattle.jrql_rows.proofs.of_jrql_ast.BoundSlots.{same_refl, none_some, some_is, agree_if_bound, agree_before_s, agree_before_p, agree_before_o}
 
 -- an option of which no value comes
 pub none_unless : {X : Type 0} (o : Option X) → ((x : X) → o ≡ Some x → ⊥) → o ≡ None

@@ -5,13 +5,13 @@ use Rattle.std.specs.List.Sorted.{IsPermutation}
 use Rattle.std.proofs.lemmas.List.Concat.{flat_map-append}
 use Rattle.std.proofs.lemmas.List.Elements.{filter-append}
 use Rattle.std.proofs.lemmas.List.Sorted.{IsPermutation-refl, IsPermutation-trans, IsPermutation-append_left, IsPermutation-append_right, IsPermutation-append_comm}
-use Rattle.rdf_terms.specs.declared.terms.Term.{Term}
-use Rattle.rdf_terms.specs.declared.terms.Triple.{Triple}
-use Rattle.jrql_ast.specs.Solutions.{agree, matches_from}
+use Rattle.jrql_rows.specs.rdf_terms.declared.terms.Term.{Term}
+use Rattle.jrql_rows.specs.rdf_terms.declared.terms.Triple.{Triple}
+use Rattle.jrql_rows.specs.jrql_ast.Solutions.{agree, matches_from}
 use Rattle.jrql_plans.specs.declared.plans.PatternStage.{PatternStage}
 use Rattle.jrql_plans.specs.PlannedGroups.{checks_of, planned}
 use Rattle.jrql_eval.specs.declared.searching.Ending.{Ending}
-use Rattle.jrql_ast.proofs.Rearranging.{by_neighbours, filter_permutes}
+use Rattle.jrql_rows.proofs.of_jrql_ast.Rearranging.{by_neighbours, filter_permutes}
 use Rattle.jrql_eval.specs.Evaluating.{all_hold, ended_by, led_to, led_from}
 
 -- lists for elements in whatever order

@@ -9,12 +9,12 @@ use Rattle.std.specs.declared.cmp.Ordering.{Ordering}
 use Rattle.std.specs.declared.cmp.Ordering.TheVariants.{Less, Equal, Greater}
 use Rattle.std.proofs.lemmas.List.Sorted.{IsPermutation-refl, IsPermutation-trans, IsPermutation-append_left, IsPermutation-append_right, IsPermutation-append_comm}
 use Rattle.std.proofs.lemmas.Map.Views.{tells_apart}
-use Rattle.rdf_terms.specs.declared.terms.Term.{Term}
-use Rattle.tree_clock.specs.Lists.{Has}
-use Rattle.mld_ops.proofs.AscendingLaws.{same_ascending}
-use Rattle.mld_ops.proofs.Keeping.{once_ascends, once_members}
-use Rattle.jrql_ast.specs.QueryAnswers.{IsSortingOf, distinct_rows, place_cmp, reply_place_cmp}
-use Rattle.jrql_ast.proofs.OneAnswer.{exact_list, exact_place, exact_reply_place, replies_total, values_total}
+use Rattle.jrql_rows.specs.rdf_terms.declared.terms.Term.{Term}
+use Rattle.jrql_rows.specs.tree_clock.Lists.{Has}
+use Rattle.jrql_rows.proofs.of_mld_ops.AscendingLaws.{same_ascending}
+use Rattle.jrql_rows.proofs.of_mld_ops.Keeping.{once_ascends, once_members}
+use Rattle.jrql_rows.specs.jrql_ast.QueryAnswers.{IsSortingOf, distinct_rows, place_cmp, reply_place_cmp}
+use Rattle.jrql_rows.proofs.of_jrql_ast.OneAnswer.{exact_list, exact_place, exact_reply_place, replies_total, values_total}
 use Rattle.jrql_eval.proofs.DescribeLaws.{agree_tests, dedup_alike}
 
 module _ {X : Type 0} (order : X → X → Ordering) (total : IsTotalOrder order) where

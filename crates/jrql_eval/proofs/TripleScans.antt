@@ -1,5 +1,6 @@
 -- The triples of the pairs that match, each once, are those of the present triples that match.
-use Rattle.std.proofs.Common.{◌≡◌, ◌∙◌, ℕ, ◌↔◌, List, [], ◌∷◌, Bool, true, false, cond, Option, None, Some, if◌then◌else◌, true≢false, map, filter, filter_map, IsTrue, refl, sym, ap, subst}
+use Rattle.std.proofs.Common.{◌≡◌, ◌∙◌, ℕ, zero, suc, ◌+◌, ◌<◌, ◌↔◌, List, [], ◌∷◌, ◌++◌, Bool, true, false, cond, Option, None, Some, if◌then◌else◌, true≢false, length, slice_get, map, take, filter, filter_map, IsTrue, refl, sym, ap, subst, arith}
+use Rattle.std.specs.Option.{option_map, option_to_list}
 use Rattle.std.specs.Cmp.{IsTotalOrder}
 use Rattle.std.specs.List.{dedup, dedup_from}
 use Rattle.std.specs.List.Sorted.{IsPermutation, IsSortedBy}
@@ -7,24 +8,24 @@ use Rattle.std.specs.Ordering.{is_lt, eq_by_cmp}
 use Rattle.std.specs.declared.cmp.Ordering.{Ordering}
 use Rattle.std.proofs.lemmas.List.Sorted.{IsPermutation-map, IsPermutation-refl}
 use Rattle.std.proofs.lemmas.Map.Lookups.{CmpEqualImpliesEq}
-use Rattle.rdf_terms.specs.declared.terms.Term.{Term}
-use Rattle.rdf_terms.specs.declared.terms.Triple.{Triple}
-use Rattle.rdf_terms.specs.Order.{triple_cmp}
-use Rattle.rdf_terms.specs.OrderLaws.{triple_total, triple_exact}
-use Rattle.tree_clock.specs.Lists.{Has, IsAscending}
-use Rattle.mld_ops.specs.declared.tagged.Tagged.{Tagged}
-use Rattle.mld_ops.specs.InOrder.{IsPutInOrder}
-use Rattle.mld_ops.specs.Present.{present}
-use Rattle.mld_ops.specs.Tagged.{tagged_cmp}
-use Rattle.mld_ops.proofs.AscendingLaws.{has_filter, ascending_filter, sorted_from_ascending}
-use Rattle.mld_ops.proofs.Keeping.{once_members, sorted_in_order}
-use Rattle.mld_ops.proofs.PresentLaws.{has_present, present_ascends}
-use Rattle.graph_index.specs.Matching.{FindsEach, HasTriple, StandTogether, matches}
-use Rattle.graph_index.proofs.Sorting.{has_image, image_has, view_sorted}
-use Rattle.jrql_ast.specs.declared.patterns.PatternTriple.{PatternTriple}
-use Rattle.jrql_ast.specs.QueryAnswers.{IsSortingOf}
-use Rattle.jrql_ast.specs.Solutions.{agree}
-use Rattle.jrql_ast.proofs.Sortings.{one_sorting}
+use Rattle.jrql_rows.specs.rdf_terms.declared.terms.Term.{Term}
+use Rattle.jrql_rows.specs.rdf_terms.declared.terms.Triple.{Triple}
+use Rattle.jrql_rows.specs.rdf_terms.Order.{triple_cmp}
+use Rattle.jrql_rows.specs.rdf_terms.OrderLaws.{triple_total, triple_exact}
+use Rattle.jrql_rows.specs.tree_clock.Lists.{Has, IsAscending}
+use Rattle.jrql_rows.specs.mld_ops.declared.tagged.Tagged.{Tagged}
+use Rattle.jrql_rows.specs.mld_ops.InOrder.{IsPutInOrder}
+use Rattle.jrql_rows.specs.mld_ops.Present.{present}
+use Rattle.jrql_rows.specs.mld_ops.Tagged.{tagged_cmp}
+use Rattle.jrql_rows.proofs.of_mld_ops.AscendingLaws.{has_filter, ascending_filter, sorted_from_ascending}
+use Rattle.jrql_rows.proofs.of_mld_ops.Keeping.{once_members, sorted_in_order}
+use Rattle.jrql_rows.proofs.of_mld_ops.PresentLaws.{has_present, present_ascends}
+use Rattle.jrql_rows.specs.graph_index.Matching.{FindsEach, HasTriple, StandTogether, matches}
+use Rattle.jrql_rows.proofs.of_graph_index.Sorting.{has_image, image_has, view_sorted}
+use Rattle.jrql_rows.specs.jrql_ast.declared.patterns.PatternTriple.{PatternTriple}
+use Rattle.jrql_rows.specs.jrql_ast.QueryAnswers.{IsSortingOf}
+use Rattle.jrql_rows.specs.jrql_ast.Solutions.{agree}
+use Rattle.jrql_rows.proofs.of_jrql_ast.Sortings.{one_sorting}
 use Rattle.jrql_plans.specs.PlannedGroups.{IsBoundIn}
 use Rattle.jrql_eval.specs.Evaluating.{has_parts, instance_of}
 use Rattle.jrql_eval.proofs.BranchLaws.{sorting_of}
@@ -116,3 +117,11 @@ checked_by pairs pattern row false triple a k e h =
 pub unchecked : (pairs : List Tagged) (pattern : PatternTriple) (row : List (Option Term)) → IsBoundIn row pattern
     → instance_of pattern row ≡ None → filter_map (λ t. agree pattern t row) (present pairs) ≡ []
 unchecked pairs pattern row k e = no_triple (present pairs) pattern row k.s k.p k.o k.subject k.predicate k.object e
+
+-- one element more that is mapped
+pub mapped_more : {X Y : Type 0} (f : X → Y) (xs : List X) (i : ℕ) → i < length xs → map f (take i xs) ++ option_to_list (option_map f (slice_get xs i)) ≡ map f (take (i + 1) xs)
+mapped_more f [] i l = absurd (omega (arith, l))
+mapped_more f (x ∷ xs) zero l = refl
+mapped_more f (x ∷ xs) (suc i) l =
+    let e : suc i + 1 ≡ suc (i + 1) = omega arith in
+    ap (λ z. f x ∷ z) (mapped_more f xs i (omega (arith, l))) ∙ ap (λ n. map f (take n (x ∷ xs))) (sym e)

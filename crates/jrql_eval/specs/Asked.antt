@@ -2,17 +2,17 @@
 use Rattle.std.specs.Prelude.{◌≡◌, ℕ, List, [], ◌∷◌, Option, map, drop}
 use Rattle.std.specs.Cmp.Lexicographic.{slice_cmp}
 use Rattle.std.specs.List.{filter, filter_map, flat_map, list_any}
-use Rattle.rdf_terms.specs.declared.terms.Term.{Term}
-use Rattle.rdf_terms.specs.declared.terms.Triple.{Triple}
-use Rattle.rdf_terms.specs.Literal.{is_same}
-use Rattle.jrql_ast.specs.declared.answers.Described.{Described}
-use Rattle.jrql_ast.specs.declared.queries.Select.{Select}
-use Rattle.jrql_ast.specs.declared.queries.Target.{Target}
-use Rattle.jrql_ast.specs.declared.queries.Target.TheVariants as targets
-use Rattle.jrql_ast.specs.declared.queries.What.{What}
-use Rattle.jrql_ast.specs.declared.queries.What.TheVariants as kinds
-use Rattle.jrql_ast.specs.QueryAnswers.{IsSortingOf, described, distinct_rows, limited, reply_place_cmp, subjects_of, targets_iri}
-use Rattle.jrql_ast.specs.Solutions.{value_of}
+use Rattle.jrql_rows.specs.rdf_terms.declared.terms.Term.{Term}
+use Rattle.jrql_rows.specs.rdf_terms.declared.terms.Triple.{Triple}
+use Rattle.jrql_rows.specs.rdf_terms.Literal.{is_same}
+use Rattle.jrql_rows.specs.jrql_ast.declared.answers.Described.{Described}
+use Rattle.jrql_rows.specs.jrql_ast.declared.queries.Select.{Select}
+use Rattle.jrql_rows.specs.jrql_ast.declared.queries.Target.{Target}
+use Rattle.jrql_rows.specs.jrql_ast.declared.queries.Target.TheVariants as targets
+use Rattle.jrql_rows.specs.jrql_ast.declared.queries.What.{What}
+use Rattle.jrql_rows.specs.jrql_ast.declared.queries.What.TheVariants as kinds
+use Rattle.jrql_rows.specs.jrql_ast.QueryAnswers.{IsSortingOf, described, distinct_rows, limited, reply_place_cmp, subjects_of, targets_iri}
+use Rattle.jrql_rows.specs.jrql_ast.Solutions.{value_of}
 use Rattle.jrql_eval.specs.Evaluating.{iri_of_term}
 
 -- rows are asked for

@@ -1,12 +1,12 @@
 -- Templates that make the same for all solutions. Words of private contracts.
 use Rattle.std.specs.Prelude.{ℕ, List, ◌↔◌, Option, Bool, true, false, ◌&&◌}
-use Rattle.rdf_terms.specs.declared.terms.Term.{Term}
-use Rattle.rdf_terms.specs.declared.terms.Triple.{Triple}
-use Rattle.tree_clock.specs.Lists.{Has}
-use Rattle.jrql_ast.specs.declared.patterns.PatternTriple.{PatternTriple}
-use Rattle.jrql_ast.specs.declared.patterns.Slot.{Slot}
-use Rattle.jrql_ast.specs.declared.patterns.Slot.TheVariants as slots
-use Rattle.jrql_ast.specs.Templates.{made_from}
+use Rattle.jrql_rows.specs.rdf_terms.declared.terms.Term.{Term}
+use Rattle.jrql_rows.specs.rdf_terms.declared.terms.Triple.{Triple}
+use Rattle.jrql_rows.specs.tree_clock.Lists.{Has}
+use Rattle.jrql_rows.specs.jrql_ast.declared.patterns.PatternTriple.{PatternTriple}
+use Rattle.jrql_rows.specs.jrql_ast.declared.patterns.Slot.{Slot}
+use Rattle.jrql_rows.specs.jrql_ast.declared.patterns.Slot.TheVariants as slots
+use Rattle.jrql_rows.specs.jrql_ast.Templates.{made_from}
 
 -- a slot that is neither a variable nor a fresh subject
 abbrev pub is_fixed : Slot → Bool

@@ -1,18 +1,18 @@
 -- How the solutions of a group are found: patterns in the order of a plan, and what is known of their places.
 -- The private calls that match patterns cite it.
-use Rattle.std.specs.Prelude.{◌≡◌, ◌==◌, ℕ, List, [], ◌++◌, Bool, true, false, ◌&&◌, Option, None, Some, length}
+use Rattle.std.specs.Prelude.{◌==◌, ℕ, List, [], ◌++◌, Bool, ◌&&◌, Option, None, Some, length}
 use Rattle.std.specs.List.{filter, flat_map, All}
-use Rattle.tree_clock.specs.Lists.{Has}
-use Rattle.rdf_terms.specs.declared.terms.Term.{Term}
-use Rattle.rdf_terms.specs.declared.terms.Triple.{Triple}
-use Rattle.graph_index.specs.Matching.{has_iri, is_term}
-pub use Rattle.graph_index.specs.Numbered.{iri_of_term, triple_at}
-pub use Rattle.jrql_filters.specs.FilteredRows.{all_hold, can_hold, all_can_hold}
-use Rattle.jrql_ast.specs.declared.patterns.Group.{Group}
-use Rattle.jrql_ast.specs.declared.patterns.PatternTriple.{PatternTriple}
-use Rattle.jrql_ast.specs.FilterMeaning.{side_value}
-use Rattle.jrql_ast.specs.InForm.{variables_of}
-use Rattle.jrql_ast.specs.Solutions.{matches_from}
+use Rattle.jrql_rows.specs.tree_clock.Lists.{Has}
+use Rattle.jrql_rows.specs.rdf_terms.declared.terms.Term.{Term}
+use Rattle.jrql_rows.specs.rdf_terms.declared.terms.Triple.{Triple}
+use Rattle.jrql_rows.specs.graph_index.Matching.{has_iri, is_term}
+pub use Rattle.jrql_rows.specs.graph_index.Numbered.{iri_of_term, triple_at}
+pub use Rattle.jrql_rows.specs.jrql_filters.FilteredRows.{all_hold, can_hold, all_can_hold}
+use Rattle.jrql_rows.specs.jrql_ast.declared.patterns.Group.{Group}
+use Rattle.jrql_rows.specs.jrql_ast.declared.patterns.PatternTriple.{PatternTriple}
+use Rattle.jrql_rows.specs.jrql_ast.FilterMeaning.{side_value}
+use Rattle.jrql_rows.specs.jrql_ast.InForm.{variables_of}
+use Rattle.jrql_rows.specs.jrql_ast.Solutions.{matches_from}
 use Rattle.jrql_plans.specs.declared.plans.BranchPlan.{BranchPlan}
 use Rattle.jrql_plans.specs.declared.plans.PatternStage.{PatternStage}
 use Rattle.jrql_plans.specs.PlannedGroups.{AreBranchesReady, AreReady, AreTestsOf, IsBoundIn, checks_of, planned, planned_behind}
@@ -21,11 +21,6 @@ use Rattle.jrql_eval.specs.declared.searching.Ending.{Ending}
 -- whether a group asks for nothing: it has no variable, no pattern, no branch and no filter
 abbrev pub asks_nothing : Group → Bool
 asks_nothing group = (variables_of group == 0) && ((length group.patterns == 0) && ((length group.branches == 0) && (length group.filters == 0)))
-
--- what becomes of a row where something is bound in it: it agrees, and is then this row, or it doesn't
-abbrev pub IsBinding : Option (List (Option Term)) → Bool → List (Option Term) → Type 0
-IsBinding None agreed row = agreed ≡ false
-IsBinding (Some bound) agreed row = (agreed ≡ true) × (row ≡ bound)
 
 -- the triple has the parts that are given
 abbrev pub has_parts : Option (List ℕ) → Option (List ℕ) → Option Term → Triple → Bool

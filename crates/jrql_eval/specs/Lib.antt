@@ -1,10 +1,6 @@
 pub mod Asked
-pub mod Bindings
-pub mod ColumnOrder
 pub mod ConstantTemplates
 pub mod Evaluating
-pub mod KeptValues
+pub mod FoundTriples
+pub mod KeptFound
 pub mod PlanEffects
-pub mod RowFronts
-pub mod RowFrontLaws
-pub mod Unbinding

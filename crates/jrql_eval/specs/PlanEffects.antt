@@ -2,21 +2,21 @@
 -- has): its patterns are matched on the triples that are present before, and each solution makes triples to delete and to insert.
 -- `effect` and `one_effect` cite it.
 use Rattle.std.specs.Prelude.{◌≡◌, ℕ, ◌<◌, ◌≤◌, List, ◌↔◌, Option, length}
-use Rattle.rdf_terms.specs.declared.terms.Term.{Term}
-use Rattle.rdf_terms.specs.declared.terms.Triple.{Triple}
-use Rattle.rdf_terms.specs.Order.{triple_cmp}
-use Rattle.tree_clock.specs.declared.dots.Dot.{Dot}
-use Rattle.tree_clock.specs.Lists.{Has, IsAscending}
-use Rattle.mld_ops.specs.declared.tagged.Tagged.{Tagged}
-use Rattle.mld_ops.specs.Tagged.{tagged_cmp}
-use Rattle.mld_ops.specs.InOrder.{IsPutInOrder}
-use Rattle.mld_ops.specs.Effects.{EffectValue}
-use Rattle.mld_ops.specs.Present.{present}
-use Rattle.jrql_ast.specs.declared.plans.UpdatePlan.{UpdatePlan}
-use Rattle.jrql_ast.specs.InForm.{IsPlanInForm}
-use Rattle.jrql_ast.specs.QueryAnswers.{solution_limit, found, IsSolutions}
-use Rattle.jrql_ast.specs.Templates.{made_from}
-use Rattle.jrql_ast.specs.FreshNames.{fresh_name}
+use Rattle.jrql_rows.specs.rdf_terms.declared.terms.Term.{Term}
+use Rattle.jrql_rows.specs.rdf_terms.declared.terms.Triple.{Triple}
+use Rattle.jrql_rows.specs.rdf_terms.Order.{triple_cmp}
+use Rattle.jrql_rows.specs.tree_clock.declared.dots.Dot.{Dot}
+use Rattle.jrql_rows.specs.tree_clock.Lists.{Has, IsAscending}
+use Rattle.jrql_rows.specs.mld_ops.declared.tagged.Tagged.{Tagged}
+use Rattle.jrql_rows.specs.mld_ops.Tagged.{tagged_cmp}
+use Rattle.jrql_rows.specs.mld_ops.InOrder.{IsPutInOrder}
+use Rattle.jrql_rows.specs.mld_ops.Effects.{EffectValue}
+use Rattle.jrql_rows.specs.mld_ops.Present.{present}
+use Rattle.jrql_rows.specs.jrql_ast.declared.plans.UpdatePlan.{UpdatePlan}
+use Rattle.jrql_rows.specs.jrql_ast.InForm.{IsPlanInForm}
+use Rattle.jrql_rows.specs.jrql_ast.QueryAnswers.{solution_limit, found, IsSolutions}
+use Rattle.jrql_rows.specs.jrql_ast.Templates.{made_from}
+use Rattle.jrql_rows.specs.jrql_ast.FreshNames.{fresh_name}
 
 -- of a list of pairs those of some triples, ascending
 pub record ArePairsOfAny (triples : List Triple) (pairs chosen : List Tagged) : Type 0 where

@@ -2,25 +2,22 @@
 ghost use Rattle.std.specs.Prelude.{◌≡◌, ◌<◌, ◌≤◌, ◌++◌, length, map, IfOk, OnOk, IsErrOf};
 ghost use Rattle.std.specs.List.{flat_map};
 ghost use Rattle.std.specs.Option.{option_copied, option_to_list};
-ghost use Rattle.mld_ops.specs.InOrder.{IsPutInOrder};
-ghost use Rattle.mld_ops.specs.Present.{present};
-ghost use Rattle.mld_ops.specs.Tagged.{tagged_cmp};
-ghost use Rattle.rdf_terms.specs.Order.{iri_cmp, triple_cmp};
-ghost use Rattle.jrql_ast.specs.InForm.{IsQueryInForm};
-ghost use Rattle.jrql_ast.specs.QueryAnswers.{IsAnswer, IsSortingOf, found, solution_limit};
-ghost use Rattle.tree_clock.specs.Lists.{IsAscending};
+ghost use Rattle.jrql_rows.specs.mld_ops.InOrder.{IsPutInOrder};
+ghost use Rattle.jrql_rows.specs.mld_ops.Present.{present};
+ghost use Rattle.jrql_rows.specs.mld_ops.Tagged.{tagged_cmp};
+ghost use Rattle.jrql_rows.specs.rdf_terms.Order.{iri_cmp, triple_cmp};
+ghost use Rattle.jrql_rows.specs.jrql_ast.InForm.{IsQueryInForm};
+ghost use Rattle.jrql_rows.specs.jrql_ast.QueryAnswers.{IsAnswer, IsSortingOf, found, solution_limit};
+ghost use Rattle.jrql_rows.specs.tree_clock.Lists.{IsAscending};
 ghost use Rattle.jrql_eval.specs.Asked.{AsksSubjects, IsDescribedBy, all_targeted, bound_iris, described_by, described_where};
-ghost use Rattle.jrql_eval.specs.KeptValues.{rows_numbered};
 
-use crate::bindings::number_at;
 use crate::faults::EvalFault;
-use crate::kept::no_rows;
-use crate::rows::term_of;
 use crate::scanning::{iri_of, triples_with};
-use crate::solving::find_rows;
-use graph_index::Graph;
-use jrql_ast::{Answer, Described, Query, Sequence, Target, What};
-use rdf_terms::{Iri, Triple, cmp_iris, cmp_triples};
+use crate::solving::{all_variables, find_rows};
+use jrql_rows::KeptRows;
+use jrql_rows::graph_index::Graph;
+use jrql_rows::jrql_ast::{Answer, Described, Query, Sequence, Target, What};
+use jrql_rows::rdf_terms::{Iri, Triple, cmp_iris, cmp_triples};
 use std::alloc::{AllocError, Global};
 
 // Adds an IRI, where there is one.
@@ -38,14 +35,13 @@ fn add_iri<'a>(iris: &mut Vec<&'a Iri>, iri: Option<&'a Iri>) -> Result<(), Allo
 fn add_bound<'a>(
     iris: &mut Vec<&'a Iri>,
     variable: usize,
-    graph: &'a Graph,
-    rows: &[Vec<Option<u32>>],
+    kept: &KeptRows<'a>,
 ) -> Result<(), AllocError>
     ensures { OnOk result (map (λ x. x.now) iris.new.items
-        ≡ map (λ x. x.now) iris.old.items ++ bound_iris variable (rows_numbered graph.now rows.now)) }
+        ≡ map (λ x. x.now) iris.old.items ++ bound_iris variable kept.now.rows) }
 {
-    for row in rows {
-        add_iri(iris, iri_of(term_of(graph, number_at(variable, row))))?;
+    for row in 0..kept.len() {
+        add_iri(iris, iri_of(kept.value(row, variable)))?;
     }
     Ok(())
 }
@@ -53,18 +49,16 @@ fn add_bound<'a>(
 // The IRIs that targets name or have in rows.
 fn targeted<'a>(
     alloc: Global,
-    graph: &'a Graph,
     targets: &'a [Target],
-    rows: &[Vec<Option<u32>>],
+    kept: &KeptRows<'a>,
 ) -> Result<Vec<&'a Iri>, AllocError>
-    ensures { IfOk result (λ iris. map (λ x. x.now) iris.items
-        ≡ all_targeted (rows_numbered graph.now rows.now) targets.now) }
+    ensures { IfOk result (λ iris. map (λ x. x.now) iris.items ≡ all_targeted kept.now.rows targets.now) }
 {
     let mut iris = Vec::new(alloc);
     for target in targets {
         match target {
             Target::Iri(iri) => iris.push(iri)?,
-            Target::Var(variable) => add_bound(&mut iris, *variable as usize, graph, rows)?,
+            Target::Var(variable) => add_bound(&mut iris, *variable as usize, kept)?,
         }
     }
     Ok(iris)
@@ -149,12 +143,11 @@ fn describe_targets(
     alloc: Global,
     graph: &Graph,
     targets: &[Target],
-    rows: &[Vec<Option<u32>>],
+    kept: &KeptRows<'_>,
 ) -> Result<Vec<Described>, AllocError>
-    ensures { IfOk result (λ subjects. IsDescribedBy (present graph.now.pairs) (rows_numbered graph.now rows.now)
-        targets.now subjects.items) }
+    ensures { IfOk result (λ subjects. IsDescribedBy (present graph.now.pairs) kept.now.rows targets.now subjects.items) }
 {
-    let mut iris = targeted(alloc, graph, targets, rows)?;
+    let mut iris = targeted(alloc, targets, kept)?;
     put_iris(&mut iris);
     describe_all(alloc, graph, &iris)
 }
@@ -173,8 +166,9 @@ pub fn describe(alloc: Global, graph: &Graph, query: &Query) -> Result<Answer, E
     let What::Describe(targets) = &query.what else {
         unreachable!()
     };
-    let mut kept = no_rows(alloc, graph, None, true);
+    let variables = all_variables(alloc, &query.group)?;
+    let mut kept = KeptRows::new(alloc, graph, &variables, true);
     find_rows(alloc, &query.group, &mut kept)?;
-    let subjects = describe_targets(alloc, graph, targets.as_slice(), &kept.rows)?;
+    let subjects = describe_targets(alloc, graph, targets.as_slice(), &kept)?;
     Ok(Answer::Subjects(Sequence::from_vec(subjects)))
 }

@@ -1,23 +1,23 @@
 //! The effects of updates.
 ghost use Rattle.std.specs.Prelude.{◌≡◌, ◌≤◌, length, IfOk, IsErrOf, IsTrue};
 ghost use Rattle.std.specs.List.{filter, flat_map};
-ghost use Rattle.graph_index.specs.Matching.{is_of};
-ghost use Rattle.text_rules.specs.Domain.{is_domain};
-ghost use Rattle.jrql_ast.specs.InForm.{IsPlanInForm};
-ghost use Rattle.jrql_ast.specs.QueryAnswers.{solution_limit};
-ghost use Rattle.mld_ops.specs.InOrder.{IsPutInOrder};
-ghost use Rattle.rdf_terms.specs.Order.{triple_cmp};
+ghost use Rattle.jrql_rows.specs.graph_index.Matching.{is_of};
+ghost use Rattle.jrql_rows.specs.text_rules.Domain.{is_domain};
+ghost use Rattle.jrql_rows.specs.jrql_ast.InForm.{IsPlanInForm};
+ghost use Rattle.jrql_rows.specs.jrql_ast.QueryAnswers.{solution_limit};
+ghost use Rattle.jrql_rows.specs.mld_ops.InOrder.{IsPutInOrder};
+ghost use Rattle.jrql_rows.specs.rdf_terms.Order.{triple_cmp};
 ghost use Rattle.jrql_eval.specs.PlanEffects.{HasTooMany, IsEffectBy, IsPlanEffect, OneEffect};
 
 use crate::faults::EvalFault;
 use crate::solving::solutions;
 use crate::templates::made_in_any_order;
-use graph_index::Graph;
-use jrql_ast::{Row, UpdatePlan};
-use mld_ops::{Effect, Tagged};
-use rdf_terms::{Triple, cmp_triples};
+use jrql_rows::graph_index::Graph;
+use jrql_rows::jrql_ast::{Row, UpdatePlan};
+use jrql_rows::mld_ops::{Effect, Tagged};
+use jrql_rows::rdf_terms::{Triple, cmp_triples};
+use jrql_rows::tree_clock::Dot;
 use std::alloc::{AllocError, Global};
-use tree_clock::Dot;
 
 // Puts triples in order, each once.
 fn put_triples(triples: &mut Vec<Triple>)

@@ -1,17 +1,10 @@
 //! Queries over a graph: solutions, selects and describes; and the effects of updates.
 #![tactic(auto)]
 
-mod binding;
-mod bindings;
-mod columns;
 mod describing;
 mod effects;
 mod faults;
-mod kept;
 mod limits;
-mod places;
-mod row_orders;
-mod rows;
 mod scanning;
 mod searching;
 mod selecting;

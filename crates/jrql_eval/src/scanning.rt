@@ -1,28 +1,27 @@
 //! Which triples of a graph a pattern may be.
-ghost use Rattle.std.specs.Prelude.{◌≡◌, ◌∷◌, ◌++◌, [], ◌<◌, List, None, IfOk, IfSome, IfNone, IsSome, map, if◌then◌else◌};
-ghost use Rattle.std.specs.List.{All, dedup, filter, filter_map};
+ghost use Rattle.std.specs.Prelude.{◌≡◌, ◌∷◌, ◌++◌, [], ◌<◌, List, None, IfOk, IfSome, IfNone, IsSome, OnOk, map, if◌then◌else◌};
+ghost use Rattle.std.specs.List.{All, dedup, filter, filter_map, slice_get};
 ghost use Rattle.std.specs.List.Sorted.{IsPermutation};
-ghost use Rattle.std.specs.Option.{option_copied};
+ghost use Rattle.std.specs.Option.{option_copied, option_map, option_to_list};
 ghost use Rattle.std.specs.Ordering.{eq_by_cmp};
-ghost use Rattle.graph_index.specs.Matching.{FindsEach, StandTogether, matches};
-ghost use Rattle.mld_ops.specs.Present.{present};
-ghost use Rattle.mld_ops.specs.Tagged.{tagged_cmp};
-ghost use Rattle.tree_clock.specs.Lists.{IsAscending};
-ghost use Rattle.rdf_terms.specs.Order.{triple_cmp};
-ghost use Rattle.mld_ops.specs.declared.tagged.Tagged.{Tagged};
-ghost use Rattle.jrql_ast.specs.declared.patterns.PatternTriple.{PatternTriple};
-ghost use Rattle.jrql_ast.specs.FilterMeaning.{side_value};
-ghost use Rattle.jrql_ast.specs.Solutions.{agree, matches_from};
-ghost use Rattle.graph_index.specs.Numbered.{iri_of_term, term_numbered, AreAllNumbered, FindsNumbered};
-ghost use Rattle.jrql_eval.specs.Bindings.{IsPlaceOf, FindsFor};
+ghost use Rattle.jrql_rows.specs.graph_index.Matching.{FindsEach, StandTogether, matches};
+ghost use Rattle.jrql_rows.specs.mld_ops.Present.{present};
+ghost use Rattle.jrql_rows.specs.mld_ops.Tagged.{tagged_cmp};
+ghost use Rattle.jrql_rows.specs.tree_clock.Lists.{IsAscending};
+ghost use Rattle.jrql_rows.specs.rdf_terms.Order.{triple_cmp};
+ghost use Rattle.jrql_rows.specs.mld_ops.declared.tagged.Tagged.{Tagged};
+ghost use Rattle.jrql_rows.specs.jrql_ast.declared.patterns.PatternTriple.{PatternTriple};
+ghost use Rattle.jrql_rows.specs.jrql_ast.FilterMeaning.{side_value};
+ghost use Rattle.jrql_rows.specs.jrql_ast.Solutions.{agree, matches_from};
+ghost use Rattle.jrql_rows.specs.graph_index.Numbered.{iri_of_term, term_numbered, AreAllNumbered, FindsNumbered};
+ghost use Rattle.jrql_eval.specs.FoundTriples.{FindsFor, IsPlaceOf};
 ghost use Rattle.jrql_plans.specs.PlannedGroups.{IsBoundIn};
 ghost use Rattle.jrql_eval.specs.Evaluating.{has_parts};
 
-use crate::bindings::Bindings;
-use graph_index::{Graph, Places, Steps, TermNumbers};
-use jrql_ast::{PatternTriple, Slot};
-use mld_ops::Tagged;
-use rdf_terms::{Iri, Term, Triple, cmp_triples};
+use jrql_rows::Bindings;
+use jrql_rows::graph_index::{Graph, LentPairs, Places, Steps, TermNumbers};
+use jrql_rows::jrql_ast::{PatternTriple, Slot};
+use jrql_rows::rdf_terms::{Iri, Term, Triple, cmp_triples};
 use std::alloc::{AllocError, Global};
 use std::marker::Brand;
 use std::sync::ledger::{Blank, Ledger};
@@ -35,27 +34,41 @@ fn pairs_in<'a, L: Ledger>(
     p: Option<&Iri>,
     o: Option<&Term>,
     blank: Blank,
-) -> Result<Vec<&'a Tagged>, AllocError>
+) -> Result<LentPairs<'a>, AllocError>
     requires name { blank.name ≡ L.name }
     requires parts { blank.parts ≡ L.parts }
     requires some { 0 < L.parts }
     ensures found { IfOk result (λ found. FindsEach (matches (option_copied s.entry) (option_copied p.entry)
-        (option_copied o.entry)) graph.now.pairs (map (λ x. x.now) found.items)) }
-    ensures together { IfOk result (λ found. StandTogether (λ (pair : Tagged). pair.triple) (map (λ x. x.now) found.items)) }
+        (option_copied o.entry)) graph.now.pairs found) }
+    ensures together { IfOk result (λ found. StandTogether (λ (pair : Tagged). pair.triple) found) }
     ensures ascending { IsAscending tagged_cmp graph.now.pairs }
 {
     let mut steps = Steps::<L>::new(blank);
     graph.scan(alloc, s, p, o, &mut steps)
 }
 
+// Adds the triple of the pair at a place, where one is there.
+fn add_triple<'a>(
+    triples: &mut Vec<&'a Triple>,
+    pairs: &LentPairs<'a>,
+    at: usize,
+) -> Result<(), AllocError>
+    ensures { OnOk result (map (λ x. x.now) triples.new.items ≡ map (λ x. x.now) triples.old.items
+        ++ option_to_list (option_map (λ (pair : Tagged). pair.triple) (slice_get pairs.now at))) }
+{
+    if let Some(triple) = pairs.triple(at) {
+        triples.push(triple)?;
+    }
+    Ok(())
+}
+
 // The triples of pairs.
-fn triples_of<'a>(alloc: Global, pairs: &[&'a Tagged]) -> Result<Vec<&'a Triple>, AllocError>
-    ensures { IfOk result (λ triples. map (λ x. x.now) triples.items
-        ≡ map (λ (pair : Tagged). pair.triple) (map (λ x. x.now) pairs.now)) }
+fn triples_of<'a>(alloc: Global, pairs: &LentPairs<'a>) -> Result<Vec<&'a Triple>, AllocError>
+    ensures { IfOk result (λ triples. map (λ x. x.now) triples.items ≡ map (λ (pair : Tagged). pair.triple) pairs.now) }
 {
     let mut triples = Vec::with_capacity(alloc, pairs.len())?;
-    for pair in pairs {
-        triples.push(&pair.triple)?;
+    for at in 0..pairs.len() {
+        add_triple(&mut triples, pairs, at)?;
     }
     Ok(triples)
 }

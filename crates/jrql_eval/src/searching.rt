@@ -1,39 +1,46 @@
 //! Rows, found stage by stage, depth first, so that the rows alone take memory.
 ghost use Rattle.std.specs.Prelude.{◌≡◌, ◌≤◌, Some, IsSome, ◌∷◌, [], if◌then◌else◌};
 ghost use Rattle.std.specs.List.{All, filter, flat_map};
-ghost use Rattle.graph_index.specs.Numbered.{triple_numbered};
-ghost use Rattle.jrql_ast.specs.QueryAnswers.{solution_limit};
-ghost use Rattle.mld_ops.specs.Present.{present};
-ghost use Rattle.jrql_ast.specs.Solutions.{matches_from};
+ghost use Rattle.jrql_rows.specs.graph_index.Numbered.{triple_numbered};
+ghost use Rattle.jrql_rows.specs.jrql_ast.QueryAnswers.{solution_limit};
+ghost use Rattle.jrql_rows.specs.mld_ops.Present.{present};
+ghost use Rattle.jrql_rows.specs.jrql_ast.Solutions.{matches_from};
 ghost use Rattle.jrql_plans.specs.PlannedGroups.{AreTestsOf, IsBranchReady, planned_in};
 ghost use Rattle.jrql_eval.specs.Evaluating.{IsEndReady, IsReadyBehind, all_hold, ended_by, led_to, led_from};
-ghost use Rattle.jrql_eval.specs.KeptValues.{KeepsFound, agree_numbered};
-ghost use Rattle.jrql_eval.specs.Unbinding.{free_variables};
+ghost use Rattle.jrql_eval.specs.KeptFound.{KeepsFound, agree_numbered};
+ghost use Rattle.jrql_rows.specs.Unbinding.{free_variables};
 
-use crate::binding::{FreeVariables, bind_pattern, free_variables, unbind_all};
-use crate::bindings::Bindings;
 use crate::faults::EvalFault;
-use crate::kept::{Kept, keep};
+use crate::limits::SOLUTION_LIMIT;
 use crate::scanning::{are_present, triples_for};
-use graph_index::TermNumbers;
-use jrql_ast::Filter;
-use jrql_filters::{all_can_hold, all_hold};
 use jrql_plans::{BranchPlan, PatternStage};
+use jrql_rows::graph_index::TermNumbers;
+use jrql_rows::jrql_ast::Filter;
+use jrql_rows::jrql_filters::{all_can_hold, all_hold};
+use jrql_rows::{Bindings, FreeVariables, KeptRows, bind_pattern, free_variables, unbind_all};
 use std::alloc::Global;
 
+// Keeps what is asked of a row that is found. It is refused with `TooMany` where it is one too many.
+fn keep(row: &Bindings<'_>, kept: &mut KeptRows<'_>) -> Result<(), EvalFault>
+    requires graphs { row.now.graph ≡ kept.old.graph }
+    requires few { kept.old.count ≤ solution_limit }
+    ensures { KeepsFound kept.old (row.now.row ∷ []) result kept.new }
+{
+    if kept.count() >= SOLUTION_LIMIT {
+        return Err(EvalFault::TooMany);
+    }
+    kept.keep(row)?;
+    Ok(())
+}
+
 // Keeps a row for which every filter holds.
-fn keep_if(
-    alloc: Global,
-    filters: &[Filter],
-    row: &Bindings<'_>,
-    kept: &mut Kept<'_>,
-) -> Result<(), EvalFault>
-    requires graphs { row.now.graph ≡ kept.old.graph.now }
+fn keep_if(filters: &[Filter], row: &Bindings<'_>, kept: &mut KeptRows<'_>) -> Result<(), EvalFault>
+    requires graphs { row.now.graph ≡ kept.old.graph }
     requires few { kept.old.count ≤ solution_limit }
     ensures { KeepsFound kept.old (if all_hold filters.now row.now.row then row.now.row ∷ [] else []) result kept.new }
 {
     if all_hold(filters, row) {
-        keep(alloc, row, kept)
+        keep(row, kept)
     } else {
         Ok(())
     }
@@ -53,10 +60,10 @@ pub(crate) fn search(
     ending: &Ending<'_>,
     stages: &[PatternStage<'_>],
     row: &mut Bindings<'_>,
-    kept: &mut Kept<'_>,
+    kept: &mut KeptRows<'_>,
 ) -> Result<(), EvalFault>
     requires ready { IsEndReady ending.now stages.now row.old.row }
-    requires graphs { row.old.graph ≡ kept.old.graph.now }
+    requires graphs { row.old.graph ≡ kept.old.graph }
     requires few { kept.old.count ≤ solution_limit }
     ensures rows { KeepsFound kept.old (led_to (present row.old.graph.pairs) ending.now stages.now row.old.row) result kept.new }
     ensures same { row.new ≡ row.old }
@@ -76,17 +83,17 @@ fn search_branches(
     alloc: Global,
     ending: &Ending<'_>,
     row: &mut Bindings<'_>,
-    kept: &mut Kept<'_>,
+    kept: &mut KeptRows<'_>,
 ) -> Result<(), EvalFault>
     requires ready { IsEndReady ending.now [] row.old.row }
-    requires graphs { row.old.graph ≡ kept.old.graph.now }
+    requires graphs { row.old.graph ≡ kept.old.graph }
     requires few { kept.old.count ≤ solution_limit }
     ensures rows { KeepsFound kept.old (filter (all_hold ending.now.filters.now)
         (ended_by (present row.old.graph.pairs) ending.now.branches.now row.old.row)) result kept.new }
     ensures same { row.new ≡ row.old }
 {
     if ending.branches.is_empty() {
-        return keep_if(alloc, ending.filters, row, kept);
+        return keep_if(ending.filters, row, kept);
     }
     for branch in ending.branches {
         search_branch(alloc, ending.filters, branch, row, kept)?;
@@ -101,11 +108,11 @@ fn search_branch(
     filters: &[Filter],
     branch: &BranchPlan<'_>,
     row: &mut Bindings<'_>,
-    kept: &mut Kept<'_>,
+    kept: &mut KeptRows<'_>,
 ) -> Result<(), EvalFault>
     requires ready { IsBranchReady row.old.row branch.now }
     requires tests { AreTestsOf filters.now branch.now.stages.items }
-    requires graphs { row.old.graph ≡ kept.old.graph.now }
+    requires graphs { row.old.graph ≡ kept.old.graph }
     requires few { kept.old.count ≤ solution_limit }
     ensures rows { KeepsFound kept.old (filter (all_hold filters.now)
         (matches_from (present row.old.graph.pairs) (planned_in branch.now) row.old.row)) result kept.new }
@@ -130,11 +137,11 @@ fn search_each(
     rest: &[PatternStage<'_>],
     found: &[TermNumbers],
     row: &mut Bindings<'_>,
-    kept: &mut Kept<'_>,
+    kept: &mut KeptRows<'_>,
 ) -> Result<(), EvalFault>
     requires ready { IsEndReady ending.now (stage.now ∷ rest.now) row.old.row }
     requires there { All (λ numbers. IsSome (triple_numbered row.old.graph numbers)) found.now }
-    requires graphs { row.old.graph ≡ kept.old.graph.now }
+    requires graphs { row.old.graph ≡ kept.old.graph }
     requires few { kept.old.count ≤ solution_limit }
     ensures rows { KeepsFound kept.old
         (flat_map (λ numbers. led_from (present row.old.graph.pairs) ending.now stage.now rest.now
@@ -159,11 +166,11 @@ fn search_behind(
     numbers: &TermNumbers,
     free: &FreeVariables,
     row: &mut Bindings<'_>,
-    kept: &mut Kept<'_>,
+    kept: &mut KeptRows<'_>,
 ) -> Result<(), EvalFault>
     requires ready { IsEndReady ending.now (stage.now ∷ rest.now) row.old.row }
     requires there { IsSome (triple_numbered row.old.graph numbers.now) }
-    requires graphs { row.old.graph ≡ kept.old.graph.now }
+    requires graphs { row.old.graph ≡ kept.old.graph }
     requires free { free.now ≡ free_variables stage.now.pattern.now row.old.row }
     requires few { kept.old.count ≤ solution_limit }
     ensures rows { KeepsFound kept.old (led_from (present row.old.graph.pairs) ending.now stage.now rest.now
@@ -188,10 +195,10 @@ fn search_bound(
     stage: &PatternStage<'_>,
     rest: &[PatternStage<'_>],
     row: &mut Bindings<'_>,
-    kept: &mut Kept<'_>,
+    kept: &mut KeptRows<'_>,
 ) -> Result<(), EvalFault>
     requires ready { IsReadyBehind ending.now stage.now rest.now row.old.row }
-    requires graphs { row.old.graph ≡ kept.old.graph.now }
+    requires graphs { row.old.graph ≡ kept.old.graph }
     requires few { kept.old.count ≤ solution_limit }
     ensures rows { KeepsFound kept.old
         (led_from (present row.old.graph.pairs) ending.now stage.now rest.now (Some row.old.row)) result kept.new }

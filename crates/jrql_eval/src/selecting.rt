@@ -1,45 +1,29 @@
 //! Selects.
-ghost use Rattle.std.specs.Prelude.{◌≡◌, ◌<◌, ◌≤◌, length, drop, IfOk, OnOk, IsErrOf};
-ghost use Rattle.std.specs.Cmp.Lexicographic.{slice_cmp};
-ghost use Rattle.mld_ops.specs.Present.{present};
-ghost use Rattle.jrql_ast.specs.InForm.{IsQueryInForm};
-ghost use Rattle.jrql_ast.specs.QueryAnswers.{IsAnswer, IsSortingOf, distinct_rows, found, limited, reply_place_cmp, solution_limit};
+ghost use Rattle.std.specs.Prelude.{◌≡◌, ◌<◌, ◌≤◌, length, drop, IfOk, IsErrOf};
+ghost use Rattle.jrql_rows.specs.mld_ops.Present.{present};
+ghost use Rattle.jrql_rows.specs.jrql_ast.InForm.{IsQueryInForm};
+ghost use Rattle.jrql_rows.specs.jrql_ast.QueryAnswers.{IsAnswer, distinct_rows, found, limited, solution_limit};
+ghost use Rattle.jrql_rows.specs.KeptValues.{rows_at};
 ghost use Rattle.jrql_eval.specs.Asked.{AsksRows, IsSelectedOf};
-ghost use Rattle.jrql_eval.specs.KeptValues.{rows_numbered};
 
 use crate::faults::EvalFault;
-use crate::kept::no_rows;
-use crate::row_orders::ByReplies;
-use crate::rows::{cmp_rows, make_rows};
 use crate::solving::find_rows;
-use graph_index::Graph;
-use graph_index::hinted_chunks::sort_by_hints;
-use jrql_ast::{Answer, Query, Row, Select, Sequence, What};
+use jrql_rows::graph_index::Graph;
+use jrql_rows::jrql_ast::{Answer, Query, Row, Select, Sequence, What};
+use jrql_rows::{KeptRows, sorted_by_replies};
 use std::alloc::{AllocError, Global};
 
-// Sorts rows by their values, from the first, in the order of replies.
-fn sort_values(
-    alloc: Global,
-    graph: &Graph,
-    rows: &mut Vec<Vec<Option<u32>>>,
-) -> Result<(), AllocError>
-    ensures { OnOk result (IsSortingOf (slice_cmp reply_place_cmp) (rows_numbered graph.now rows.old.items)
-        (rows_numbered graph.now rows.new.items)) }
-{
-    sort_by_hints(alloc, &ByReplies { graph }, rows)
-}
-
 // Each row once, where that is asked for.
-fn drop_repeats(distinct: bool, graph: &Graph, rows: &mut Vec<Vec<Option<u32>>>)
-    ensures { rows_numbered graph.now rows.new.items ≡ distinct_rows distinct (rows_numbered graph.now rows.old.items) }
+fn drop_repeats(distinct: bool, kept: &KeptRows<'_>, rows: &mut Vec<usize>)
+    ensures { rows_at kept.now.rows rows.new.items ≡ distinct_rows distinct (rows_at kept.now.rows rows.old.items) }
 {
     if distinct {
-        rows.dedup_by(|row, other| cmp_rows(graph, row, other).is_eq());
+        rows.dedup_by(|row, other| kept.compare(*row, *other).is_eq());
     }
 }
 
 // As many rows as a select asks for, behind as many as it leaves out.
-fn cut(rows: &[Vec<Option<u32>>], offset: u64, limit: Option<u64>) -> &[Vec<Option<u32>>]
+fn cut(rows: &[usize], offset: u64, limit: Option<u64>) -> &[usize]
     ensures { result.now ≡ limited limit (drop offset rows.now) }
 {
     let begun = offset.min(rows.len() as u64) as usize;
@@ -64,22 +48,21 @@ pub fn select(alloc: Global, graph: &Graph, query: &Query) -> Result<Answer, Eva
     let What::Select(select) = &query.what else {
         unreachable!()
     };
-    let mut kept = no_rows(alloc, graph, Some(select.vars.as_slice()), select.distinct);
+    let mut kept = KeptRows::new(alloc, graph, select.vars.as_slice(), select.distinct);
     find_rows(alloc, &query.group, &mut kept)?;
-    Ok(Answer::Rows(selected(alloc, graph, select, &mut kept.rows)?))
+    Ok(Answer::Rows(selected(alloc, select, &kept)?))
 }
 
 // Rows of a select's values, as it asks for them.
 fn selected(
     alloc: Global,
-    graph: &Graph,
     select: &Select,
-    rows: &mut Vec<Vec<Option<u32>>>,
+    kept: &KeptRows<'_>,
 ) -> Result<Sequence<Row>, AllocError>
-    ensures { IfOk result (IsSelectedOf select.now (rows_numbered graph.now rows.old.items)) }
+    ensures { IfOk result (IsSelectedOf select.now kept.now.rows) }
 {
-    sort_values(alloc, graph, rows)?;
-    drop_repeats(select.distinct, graph, rows);
-    let left = cut(rows, select.offset, select.limit);
-    Ok(Sequence::from_vec(make_rows(alloc, graph, left)?))
+    let mut rows = sorted_by_replies(alloc, kept)?;
+    drop_repeats(select.distinct, kept, &mut rows);
+    let left = cut(&rows, select.offset, select.limit);
+    Ok(Sequence::from_vec(kept.make_rows(alloc, left)?))
 }

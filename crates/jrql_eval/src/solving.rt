@@ -1,24 +1,20 @@
 //! The solutions of a group.
-ghost use Rattle.std.specs.Prelude.{◌≡◌, ◌<◌, ◌≤◌, ◌∷◌, [], length, IfOk, OnOk, IsErrOf};
-ghost use Rattle.mld_ops.specs.Present.{present};
-ghost use Rattle.jrql_ast.specs.InForm.{IsGroupInForm, variables_of};
-ghost use Rattle.jrql_ast.specs.QueryAnswers.{IsSolutions, IsSortingOf, found, row_cmp, solution_limit};
+ghost use Rattle.std.specs.Prelude.{◌≡◌, ◌<◌, ◌≤◌, ◌∷◌, [], length, IfOk, IsErrOf};
+ghost use Rattle.std.specs.List.{range_with_len};
+ghost use Rattle.jrql_rows.specs.mld_ops.Present.{present};
+ghost use Rattle.jrql_rows.specs.jrql_ast.InForm.{IsGroupInForm, variables_of};
+ghost use Rattle.jrql_rows.specs.jrql_ast.QueryAnswers.{IsSolutions, found, solution_limit};
 ghost use Rattle.jrql_eval.specs.Evaluating.{asks_nothing};
-ghost use Rattle.jrql_eval.specs.KeptValues.{KeepsFound, rows_numbered};
+ghost use Rattle.jrql_eval.specs.KeptFound.{KeepsFound};
 
-use crate::bindings::Bindings;
-use crate::columns::columns;
 use crate::faults::EvalFault;
-use crate::kept::{Kept, no_rows};
-use crate::row_orders::ByColumns;
-use crate::rows::make_rows;
 use crate::scanning::are_present;
 use crate::searching::{Ending, search};
-use graph_index::Graph;
-use graph_index::hinted_chunks::sort_by_hints;
-use jrql_ast::{Group, Row};
-use jrql_filters::all_can_hold;
 use jrql_plans::plan_of;
+use jrql_rows::graph_index::Graph;
+use jrql_rows::jrql_ast::{Group, Row};
+use jrql_rows::jrql_filters::all_can_hold;
+use jrql_rows::{Bindings, KeptRows, columns_of, sorted_by_columns};
 use std::alloc::{AllocError, Global};
 
 // How many variables a group has.
@@ -49,14 +45,31 @@ fn empty_row(alloc: Global) -> Result<Vec<Row>, AllocError>
     Ok(rows)
 }
 
+/// All variables of a group.
+pub(crate) fn all_variables(alloc: Global, group: &Group) -> Result<Vec<u16>, AllocError>
+    requires { IsGroupInForm group.now }
+    ensures { IfOk result (λ variables. variables.items ≡ range_with_len 0 (variables_of group.now)) }
+{
+    let count = variables_of(group);
+    let mut variables = Vec::with_capacity(alloc, count)?;
+    for variable in 0..count as u16 {
+        variables.push(variable)?;
+    }
+    Ok(variables)
+}
+
 /// Keeps the solutions of a group, in whatever order.
-pub(crate) fn find_rows(alloc: Global, group: &Group, kept: &mut Kept<'_>) -> Result<(), EvalFault>
+pub(crate) fn find_rows(
+    alloc: Global,
+    group: &Group,
+    kept: &mut KeptRows<'_>,
+) -> Result<(), EvalFault>
     requires form { IsGroupInForm group.now }
     requires few { kept.old.count ≤ solution_limit }
-    ensures { KeepsFound kept.old (found (present kept.old.graph.now.pairs) group.now) result kept.new }
+    ensures { KeepsFound kept.old (found (present kept.old.graph.pairs) group.now) result kept.new }
 {
     let plan = plan_of(alloc, group)?;
-    let mut start = Bindings::unbound(alloc, kept.graph, variables_of(group))?;
+    let mut start = Bindings::unbound(alloc, kept.graph(), variables_of(group))?;
     if !all_can_hold(&plan.tests, &start) {
         return Ok(());
     }
@@ -68,19 +81,6 @@ pub(crate) fn find_rows(alloc: Global, group: &Group, kept: &mut Kept<'_>) -> Re
         branches: &plan.branches,
     };
     search(alloc, &ending, &plan.stages, &mut start, kept)
-}
-
-// Sorts rows by their values for these variables.
-fn sort_rows(
-    alloc: Global,
-    graph: &Graph,
-    columns: &[u16],
-    rows: &mut Vec<Vec<Option<u32>>>,
-) -> Result<(), AllocError>
-    ensures { OnOk result (IsSortingOf (row_cmp columns.now) (rows_numbered graph.now rows.old.items)
-        (rows_numbered graph.now rows.new.items)) }
-{
-    sort_by_hints(alloc, &ByColumns { graph, columns }, rows)
 }
 
 /// The solutions of a group, sorted by its named variables in the order of their names, then by its hidden ones: for each branch all
@@ -97,9 +97,10 @@ pub fn solutions(alloc: Global, graph: &Graph, group: &Group) -> Result<Vec<Row>
         let rows = empty_row(alloc)?;
         return Ok(rows);
     }
-    let columns = columns(alloc, group.names.as_slice(), group.hidden)?;
-    let mut kept = no_rows(alloc, graph, None, false);
+    let variables = all_variables(alloc, group)?;
+    let mut kept = KeptRows::new(alloc, graph, &variables, false);
     find_rows(alloc, group, &mut kept)?;
-    sort_rows(alloc, graph, &columns, &mut kept.rows)?;
-    Ok(make_rows(alloc, graph, &kept.rows)?)
+    let columns = columns_of(alloc, group.names.as_slice(), group.hidden)?;
+    let sorted = sorted_by_columns(alloc, &kept, &columns)?;
+    Ok(kept.make_rows(alloc, &sorted)?)
 }

@@ -1,15 +1,15 @@
 //! What templates make for the solutions of an update, where those without variables make it once.
 ghost use Rattle.std.specs.Prelude.{◌≡◌, ◌≤◌, length, not, IfOk, IsTrue};
 ghost use Rattle.std.specs.List.{filter};
-ghost use Rattle.text_rules.specs.Domain.{is_domain};
-ghost use Rattle.jrql_ast.specs.FreshNames.{fresh_name};
-ghost use Rattle.jrql_ast.specs.QueryAnswers.{solution_limit};
+ghost use Rattle.jrql_rows.specs.text_rules.Domain.{is_domain};
+ghost use Rattle.jrql_rows.specs.jrql_ast.FreshNames.{fresh_name};
+ghost use Rattle.jrql_rows.specs.jrql_ast.QueryAnswers.{solution_limit};
 ghost use Rattle.jrql_eval.specs.ConstantTemplates.{is_fixed, is_constant, AreMadeBy};
 
-use jrql_ast::{PatternTriple, Row, Slot, made_triples};
-use rdf_terms::Triple;
+use jrql_rows::jrql_ast::{PatternTriple, Row, Slot, made_triples};
+use jrql_rows::rdf_terms::Triple;
+use jrql_rows::tree_clock::Dot;
 use std::alloc::{AllocError, Global};
-use tree_clock::Dot;
 
 // Whether a slot is a term.
 fn is_fixed(slot: &Slot) -> bool

@@ -1,6 +1,6 @@
 use Rattle.std.proofs.Common.{◌∙◌, ◌++◌, None, Some, map, sym, ap}
-use Rattle.mld_ops.specs.Present.{present}
-use Rattle.mld_ops.proofs.PresentLaws.{present_ascends}
+use Rattle.jrql_rows.specs.mld_ops.Present.{present}
+use Rattle.jrql_rows.proofs.of_mld_ops.PresentLaws.{present_ascends}
 use Rattle.jrql_eval.specs.Evaluating.{has_parts}
 use Rattle.jrql_eval.proofs.LedRows.{on_ok_weaker}
 use Rattle.jrql_eval.proofs.DescribeLaws.{described_found}

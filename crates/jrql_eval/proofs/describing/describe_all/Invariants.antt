@@ -1,7 +1,7 @@
 use Rattle.std.proofs.Common.{◌≡◌, ◌<◌, map, take, flat_map}
-use Rattle.mld_ops.specs.Present.{present}
-use Rattle.mld_ops.specs.Tagged.{tagged_cmp}
-use Rattle.tree_clock.specs.Lists.{IsAscending}
+use Rattle.jrql_rows.specs.mld_ops.Present.{present}
+use Rattle.jrql_rows.specs.mld_ops.Tagged.{tagged_cmp}
+use Rattle.jrql_rows.specs.tree_clock.Lists.{IsAscending}
 use Rattle.jrql_eval.specs.Asked.{described_where}
 use Rattle.jrql_eval.proofs.describing.describe_all.Given as goal
 

@@ -1,12 +1,11 @@
 use Rattle.std.proofs.Common.{◌∙◌, ◌<◌, List, ℕ, length, flat_map, map, sym, ap, subst}
 use Rattle.std.proofs.lemmas.List.{length-map}
-use Rattle.rdf_terms.specs.Order.{iri_cmp}
-use Rattle.mld_ops.specs.InOrder.{IsPutInOrder}
-use Rattle.mld_ops.specs.Present.{present}
-use Rattle.mld_ops.proofs.PresentLaws.{present_ascends}
-use Rattle.graph_index.proofs.Ranging.{ok_weaker}
+use Rattle.jrql_rows.specs.rdf_terms.Order.{iri_cmp}
+use Rattle.jrql_rows.specs.mld_ops.InOrder.{IsPutInOrder}
+use Rattle.jrql_rows.specs.mld_ops.Present.{present}
+use Rattle.jrql_rows.proofs.of_mld_ops.PresentLaws.{present_ascends}
+use Rattle.jrql_rows.proofs.of_graph_index.Ranging.{ok_weaker}
 use Rattle.jrql_eval.specs.Asked.{described_where}
-use Rattle.jrql_eval.specs.KeptValues.{rows_numbered}
 use Rattle.jrql_eval.proofs.DescribeLaws.{described_are}
 use Rattle.jrql_eval.proofs.describing.describe_targets.Goals as goal
 
@@ -20,5 +19,5 @@ returns c =
     present_ascends c.args.graph.now.pairs (c.describe_all.ensures.ascending (subst (λ zs. 0 < length zs) (sym c.deref.ensures.value) some_put)) in
     ok_weaker c.describe_all.result
     (λ subjects e. e ∙ ap (λ l. flat_map (described_where graph) (map (λ x. x.now) l)) c.deref.ensures.value
-    ∙ described_are graph (rows_numbered c.args.graph.now c.args.rows.now) c.args.targets.now iris some put)
+    ∙ described_are graph c.args.kept.now.rows c.args.targets.now iris some put)
     c.describe_all.ensures.subjects

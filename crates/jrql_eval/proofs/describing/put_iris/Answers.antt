@@ -2,8 +2,8 @@ use Rattle.std.proofs.Common.{rules}
 use Rattle.std.proofs.lemmas.Fn.{always_returns_same, dedup_same}
 use Rattle.std.proofs.lemmas.List.Sorted.{ranks_by}
 use Rattle.std.specs.Ordering.{eq_by_cmp, is_lt}
-use Rattle.rdf_terms.specs.Order.{iri_cmp}
-use Rattle.mld_ops.proofs.PropertiesLaws.{iri_total, iri_exact}
+use Rattle.jrql_rows.specs.rdf_terms.Order.{iri_cmp}
+use Rattle.jrql_rows.proofs.of_mld_ops.PropertiesLaws.{iri_total, iri_exact}
 use Rattle.jrql_eval.proofs.TripleScans.{view_in_order}
 use Rattle.jrql_eval.proofs.describing.put_iris.Goals as goal
 

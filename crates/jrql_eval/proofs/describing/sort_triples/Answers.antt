@@ -2,9 +2,9 @@ use Rattle.std.proofs.Common.{rules}
 use Rattle.std.proofs.lemmas.Fn.{always_returns_same}
 use Rattle.std.proofs.lemmas.List.Sorted.{IsPermutation-map, ranks_by}
 use Rattle.std.specs.Ordering.{is_lt}
-use Rattle.rdf_terms.specs.Order.{triple_cmp}
-use Rattle.rdf_terms.specs.OrderLaws.{triple_total}
-use Rattle.graph_index.proofs.Sorting.{view_sorted}
+use Rattle.jrql_rows.specs.rdf_terms.Order.{triple_cmp}
+use Rattle.jrql_rows.specs.rdf_terms.OrderLaws.{triple_total}
+use Rattle.jrql_rows.proofs.of_graph_index.Sorting.{view_sorted}
 use Rattle.jrql_eval.proofs.describing.sort_triples.Goals as goal
 
 pub returns : goal.returns

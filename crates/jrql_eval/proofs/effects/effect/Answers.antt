@@ -1,7 +1,7 @@
 use Rattle.std.proofs.Common.{◌≤◌, List, Option, length, sym, subst}
-use Rattle.rdf_terms.specs.declared.terms.Term.{Term}
-use Rattle.mld_ops.specs.Present.{present}
-use Rattle.jrql_ast.specs.QueryAnswers.{solution_limit}
+use Rattle.jrql_rows.specs.rdf_terms.declared.terms.Term.{Term}
+use Rattle.jrql_rows.specs.mld_ops.Present.{present}
+use Rattle.jrql_rows.specs.jrql_ast.QueryAnswers.{solution_limit}
 use Rattle.jrql_eval.proofs.EffectsByPlan.{few_rows}
 use Rattle.jrql_eval.proofs.effects.effect.Goals as goal
 

@@ -1,6 +1,6 @@
 use Rattle.std.proofs.Common.{◌∙◌, List, ap, subst}
-use Rattle.jrql_ast.specs.declared.patterns.PatternTriple.{PatternTriple}
-use Rattle.jrql_ast.specs.FreshNames.{fresh_name}
+use Rattle.jrql_rows.specs.jrql_ast.declared.patterns.PatternTriple.{PatternTriple}
+use Rattle.jrql_rows.specs.jrql_ast.FreshNames.{fresh_name}
 use Rattle.jrql_eval.specs.ConstantTemplates.{AreMadeBy}
 use Rattle.jrql_eval.proofs.EffectsByPlan.{effect_of_made, pairs_of_each}
 use Rattle.jrql_eval.proofs.effects.effect_by.Goals as goal

@@ -2,9 +2,9 @@ use Rattle.std.proofs.Common.{rules}
 use Rattle.std.proofs.lemmas.Fn.{always_returns_same, dedup_same}
 use Rattle.std.proofs.lemmas.List.Sorted.{ranks_by}
 use Rattle.std.specs.Ordering.{eq_by_cmp, is_lt}
-use Rattle.rdf_terms.specs.Order.{triple_cmp}
-use Rattle.rdf_terms.specs.OrderLaws.{triple_total, triple_exact}
-use Rattle.mld_ops.proofs.Keeping.{sorted_in_order}
+use Rattle.jrql_rows.specs.rdf_terms.Order.{triple_cmp}
+use Rattle.jrql_rows.specs.rdf_terms.OrderLaws.{triple_total, triple_exact}
+use Rattle.jrql_rows.proofs.of_mld_ops.Keeping.{sorted_in_order}
 use Rattle.jrql_eval.proofs.effects.put_triples.Goals as goal
 
 pub returns : goal.returns

@@ -1,5 +1,5 @@
 use Rattle.std.proofs.Common.{◌∙◌, ◌∷◌, [], Bool, if◌then◌else◌, ap}
-use Rattle.mld_ops.specs.Present.{present}
+use Rattle.jrql_rows.specs.mld_ops.Present.{present}
 use Rattle.jrql_eval.proofs.Scanned.{one_checked}
 use Rattle.jrql_eval.proofs.scanning.are_present.Goals as goal
 

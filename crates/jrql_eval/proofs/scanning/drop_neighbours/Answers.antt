@@ -1,7 +1,7 @@
 use Rattle.std.proofs.Common.{◌∙◌, map, ap, rules}
 use Rattle.std.proofs.lemmas.Fn.{dedup_same}
 use Rattle.std.specs.Ordering.{eq_by_cmp}
-use Rattle.rdf_terms.specs.Order.{triple_cmp}
+use Rattle.jrql_rows.specs.rdf_terms.Order.{triple_cmp}
 use Rattle.jrql_eval.proofs.TripleScans.{view_dedup}
 use Rattle.jrql_eval.proofs.scanning.drop_neighbours.Goals as goal
 

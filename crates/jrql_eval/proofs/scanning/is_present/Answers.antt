@@ -1,10 +1,10 @@
 use Rattle.std.proofs.Common.{◌≡◌, ◌↔◌, Some, IsTrue, subst}
-use Rattle.rdf_terms.specs.declared.terms.Triple.{Triple}
-use Rattle.tree_clock.specs.Lists.{IsAscending}
-use Rattle.mld_ops.specs.Tagged.{tagged_cmp}
-use Rattle.graph_index.specs.Graphs.{GraphValue}
-use Rattle.graph_index.specs.Matching.{HasTriple}
-use Rattle.graph_index.specs.Numbered.{triple_numbered, TermNumbers}
+use Rattle.jrql_rows.specs.rdf_terms.declared.terms.Triple.{Triple}
+use Rattle.jrql_rows.specs.tree_clock.Lists.{IsAscending}
+use Rattle.jrql_rows.specs.mld_ops.Tagged.{tagged_cmp}
+use Rattle.jrql_rows.specs.graph_index.Graphs.{GraphValue}
+use Rattle.jrql_rows.specs.graph_index.Matching.{HasTriple}
+use Rattle.jrql_rows.specs.graph_index.Numbered.{triple_numbered, TermNumbers}
 use Rattle.jrql_eval.proofs.NumberedTriples.{none_agrees, numbers_checked, no_subject, no_predicate, no_object}
 use Rattle.jrql_eval.proofs.scanning.is_present.Goals as goal
 

@@ -1,4 +1,4 @@
-use Rattle.graph_index.proofs.Ranging.{ok_weaker}
+use Rattle.jrql_rows.proofs.of_graph_index.Ranging.{ok_weaker}
 use Rattle.jrql_eval.proofs.NumberedTriples.{finds_for_wanted, finds_none, no_subject, no_predicate, no_object}
 use Rattle.jrql_eval.proofs.scanning.triples_for.Goals as goal
 

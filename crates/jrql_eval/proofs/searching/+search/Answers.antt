@@ -1,20 +1,20 @@
 use Rattle.std.proofs.Common.{arith, ◌∙◌, ◌≤◌, List, [], ◌∷◌, Bool, Bor, All, IsSome, if◌then◌else◌, false, filter, flat_map, get_or, length, refl, sym, ap, subst, Ok, Err, Some}
 use Rattle.std.proofs.lemmas.Result.{err_from_is_err_and}
-use Rattle.mld_ops.specs.Present.{present}
-use Rattle.graph_index.specs.Graphs.{GraphValue}
-use Rattle.graph_index.specs.Numbered.{triple_numbered, TermNumbers}
-use Rattle.jrql_ast.specs.declared.patterns.PatternTriple.{PatternTriple}
-use Rattle.jrql_ast.specs.Solutions.{matches_from}
-use Rattle.jrql_eval.specs.Bindings.{BindingsValue}
+use Rattle.jrql_rows.specs.mld_ops.Present.{present}
+use Rattle.jrql_rows.specs.graph_index.Graphs.{GraphValue}
+use Rattle.jrql_rows.specs.graph_index.Numbered.{triple_numbered, TermNumbers}
+use Rattle.jrql_rows.specs.jrql_ast.declared.patterns.PatternTriple.{PatternTriple}
+use Rattle.jrql_rows.specs.jrql_ast.Solutions.{matches_from}
+use Rattle.jrql_eval.specs.KeptFound.{KeepsEachFound, KeepsFound, agree_numbered}
+use Rattle.jrql_rows.specs.Bindings.{BindingsValue}
 use Rattle.jrql_plans.specs.declared.plans.PatternStage.{PatternStage}
 use Rattle.jrql_plans.specs.declared.plans.BranchPlan.{BranchPlan}
 use Rattle.jrql_plans.specs.PlannedGroups.{AreBranchesReady, AreReady, AreTestsOf, IsBoundIn, IsBranchReady, planned, planned_in}
 use Rattle.jrql_eval.specs.Evaluating.{IsEndReady, all_hold, ended_by, led_from, led_to}
-use Rattle.jrql_eval.specs.KeptValues.{KeepsEachFound, KeepsFound, agree_numbered}
-use Rattle.jrql_eval.specs.Unbinding.{all_cleared, free_variables}
+use Rattle.jrql_rows.specs.Unbinding.{all_cleared, free_variables}
 use Rattle.jrql_eval.proofs.KeptLaws.{keeps_each, keeps_err, keeps_led, keeps_nothing, keeps_one_more, keeps_same, numbers_agree, numbers_differ, there_from}
 use Rattle.jrql_eval.proofs.BranchLaws.{branch_led, depth_at, ended_each, passed_by}
-use Rattle.jrql_eval.proofs.FreeLaws.{unbound_again}
+use Rattle.jrql_rows.proofs.FreeLaws.{unbound_again}
 use Rattle.jrql_eval.proofs.LedRows.{led_checked, led_lost, moved_checks, ready_alone}
 use Rattle.jrql_eval.proofs.RefusedRows.{led_refused}
 use Rattle.jrql_eval.proofs.searching.+search.Goals as goal
@@ -67,7 +67,7 @@ search_each-search_behind-requires t c =
           subst (λ (b : BindingsValue). IsSome (triple_numbered b.graph (get_or c.args.found.now c.loop-numbers.numbers-index no_numbers))) (sym same)
               (c.requires.there c.loop-numbers.numbers-index no_numbers c.loop-numbers-test.true),
           (
-            ap (λ (b : BindingsValue). b.graph) same ∙ c.requires.graphs ∙ ap (λ (g : Bor GraphValue). g.now) (sym kept.graph),
+            ap (λ (b : BindingsValue). b.graph) same ∙ c.requires.graphs ∙ sym kept.keeps.graph,
             (c.free_variables-free.ensures ∙ ap (λ (b : BindingsValue). free_variables stage.pattern.now b.row) (sym same), kept.few),
           ),
         ),
@@ -217,7 +217,7 @@ search_branches-search_branch-requires t c =
             (subst (IsBranchReady c.args.row.now.row) (sym c.branch-item.is) (c.requires.ready.ready i branch c.loop-branch-test.true)),
         (
           subst (λ (b : BranchPlan). AreTestsOf c.args.ending.now.filters.now b.stages.items) (sym c.branch-item.is) (c.requires.ready.tested_behind i branch c.loop-branch-test.true),
-          (ap (λ (b : BindingsValue). b.graph) same ∙ c.requires.graphs ∙ ap (λ (g : Bor GraphValue). g.now) (sym kept.graph), kept.few),
+          (ap (λ (b : BindingsValue). b.graph) same ∙ c.requires.graphs ∙ sym kept.keeps.graph, kept.few),
         ),
       ),
     )

@@ -1,9 +1,9 @@
 use Rattle.std.proofs.Common.{◌≡◌, ◌+◌, ◌*◌, length, take, filter, flat_map}
-use Rattle.mld_ops.specs.Present.{present}
-use Rattle.jrql_ast.specs.Solutions.{matches_from}
+use Rattle.jrql_rows.specs.mld_ops.Present.{present}
+use Rattle.jrql_rows.specs.jrql_ast.Solutions.{matches_from}
 use Rattle.jrql_plans.specs.PlannedGroups.{planned_in}
 use Rattle.jrql_eval.specs.Evaluating.{all_hold, led_from}
-use Rattle.jrql_eval.specs.KeptValues.{KeepsEachFound, agree_numbered}
+use Rattle.jrql_eval.specs.KeptFound.{KeepsEachFound, agree_numbered}
 use Rattle.jrql_eval.proofs.BranchLaws.{depth_behind}
 use Rattle.jrql_eval.proofs.searching.+search.Given as goal
 

@@ -1,11 +1,11 @@
 use Rattle.std.proofs.Common.{◌≡◌, ◌∙◌, ◌++◌, List, [], Bool, Ok, sym, ap, map, IsPermutation, if◌then◌else◌, refl, subst}
-use Rattle.mld_ops.specs.Present.{present}
-use Rattle.graph_index.specs.Graphs.{GraphValue}
-use Rattle.jrql_ast.specs.declared.patterns.PatternTriple.{PatternTriple}
-use Rattle.jrql_ast.specs.QueryAnswers.{found}
-use Rattle.jrql_ast.specs.Solutions.{matches_from}
+use Rattle.jrql_rows.specs.mld_ops.Present.{present}
+use Rattle.jrql_rows.specs.graph_index.Graphs.{GraphValue}
+use Rattle.jrql_rows.specs.jrql_ast.declared.patterns.PatternTriple.{PatternTriple}
+use Rattle.jrql_rows.specs.jrql_ast.QueryAnswers.{found}
+use Rattle.jrql_rows.specs.jrql_ast.Solutions.{matches_from}
 use Rattle.jrql_plans.specs.PlannedGroups.{planned}
-use Rattle.jrql_eval.specs.Bindings.{BindingsValue}
+use Rattle.jrql_rows.specs.Bindings.{BindingsValue}
 use Rattle.jrql_eval.proofs.BranchLaws.{group_planned, passed_by}
 use Rattle.jrql_eval.proofs.KeptLaws.{keeps_moved, keeps_nothing, keeps_same}
 use Rattle.jrql_eval.proofs.LedRows.{moved_checks}
@@ -14,7 +14,7 @@ use Rattle.jrql_eval.proofs.solving.find_rows.Goals as goal
 
 pub returns-then-not-all_can_hold : goal.returns-then-not-all_can_hold
 returns-then-not-all_can_hold c =
-    let graph = present c.args.kept.now.graph.now.pairs in
+    let graph = present c.args.kept.now.graph.pairs in
     let group = c.args.group.now in
     let start = c.in_ok-start.start in
     keeps_nothing c.args.kept.now (found graph group) c.requires.few
@@ -24,12 +24,12 @@ returns-then-not-all_can_hold c =
 
 pub returns-then-not-are_present : goal.returns-then-not-are_present
 returns-then-not-are_present c =
-    let graph = present c.args.kept.now.graph.now.pairs in
+    let graph = present c.args.kept.now.graph.pairs in
     let group = c.args.group.now in
     let plan = c.in_ok-plan.plan in
     let start = c.in_ok-start.start in
     let checked = subst (λ (g : GraphValue). (rest : List PatternTriple) → matches_from (present g.pairs) (map (λ x. x.now) c.deref-2.result.now ++ rest) start.row
-    ≡ (if c.are_present.result then matches_from (present g.pairs) rest start.row else [])) (ap (λ (b : BindingsValue). b.graph) c.in_ok-start.ensures) c.are_present.ensures in
+    ≡ (if c.are_present.result then matches_from (present g.pairs) rest start.row else [])) (ap (λ (b : BindingsValue). b.graph) c.in_ok-start.ensures ∙ c.graph.ensures) c.are_present.ensures in
     let moved = group_planned graph group c.variables_of.result plan start.row c.are_present.result c.variables_of.ensures c.in_ok-plan.ensures (ap (λ (b : BindingsValue). b.row) c.in_ok-start.ensures)
     (moved_checks graph c.deref-2.result.now plan.checks.items start.row start.row c.are_present.result c.deref-2.ensures.value refl checked) in
     keeps_moved {X = Unit {0}} c.args.kept.now (found graph group) [] (Ok tt) c.args.kept.now
@@ -38,11 +38,11 @@ returns-then-not-are_present c =
 
 pub returns : goal.returns
 returns c =
-    let graph = present c.args.kept.now.graph.now.pairs in
+    let graph = present c.args.kept.now.graph.pairs in
     let group = c.args.group.now in
     let plan = c.in_ok-plan.plan in
     let start = c.in_ok-start.start in
-    let same_graph = ap (λ (b : BindingsValue). b.graph) c.in_ok-start.ensures in
+    let same_graph = ap (λ (b : BindingsValue). b.graph) c.in_ok-start.ensures ∙ c.graph.ensures in
     let checked = subst (λ (g : GraphValue). (rest : List PatternTriple) → matches_from (present g.pairs) (map (λ x. x.now) c.deref-2.result.now ++ rest) start.row
     ≡ (if c.are_present.result then matches_from (present g.pairs) rest start.row else [])) same_graph c.are_present.ensures in
     let moved = group_planned graph group c.variables_of.result plan start.row c.are_present.result c.variables_of.ensures c.in_ok-plan.ensures (ap (λ (b : BindingsValue). b.row) c.in_ok-start.ensures)

@@ -1,9 +1,9 @@
-use Rattle.std.proofs.Common.{◌∙◌, List, Option, None, false, ℕ, ap, subst, sym}
-use Rattle.rdf_terms.specs.declared.terms.Term.{Term}
-use Rattle.mld_ops.specs.Present.{present}
-use Rattle.jrql_ast.specs.QueryAnswers.{IsSolutions, IsSortingOf, row_cmp}
-use Rattle.jrql_eval.specs.ColumnOrder.{AreColumnsOf}
-use Rattle.jrql_eval.specs.KeptValues.{rows_numbered}
+use Rattle.std.proofs.Common.{◌∙◌, List, Option, false, ℕ, ap, subst, sym}
+use Rattle.jrql_rows.specs.rdf_terms.declared.terms.Term.{Term}
+use Rattle.jrql_rows.specs.mld_ops.Present.{present}
+use Rattle.jrql_rows.specs.jrql_ast.QueryAnswers.{IsSolutions, IsSortingOf, row_cmp}
+use Rattle.jrql_rows.specs.ColumnOrder.{AreColumnsOf}
+use Rattle.jrql_rows.specs.KeptValues.{nothing_kept, rows_at}
 use Rattle.std.proofs.lemmas.Result.{err_from_is_err_and}
 use Rattle.jrql_eval.proofs.KeptAnswers.{answered_fault, answered_few, solutions_kept}
 use Rattle.jrql_eval.proofs.NothingAsked.{nothing_few, nothing_solved}
@@ -23,19 +23,22 @@ returns-then-asks_nothing-clause-few c =
 pub returns-clause-rows : goal.returns-clause-rows
 returns-clause-rows c =
     let graph = c.args.graph.now in
+    let group = c.args.group.now in
     let kept = c.find_rows.new.kept in
     let columns = c.in_ok-columns.columns.items in
-    solutions_kept graph c.args.group.now columns c.no_rows-kept.result kept c.in_ok-make_rows.field-0.items
-    (subst (λ (names : List (List ℕ)). AreColumnsOf names c.args.group.now.hidden columns) c.as_slice.ensures c.in_ok-columns.ensures)
-    c.no_rows-kept.ensures c.in_ok-find_rows.ensures
-    (subst (λ (rows : List (List (Option Term))). IsSortingOf (row_cmp columns) (rows_numbered graph kept.rows.items) rows)
-    (sym (c.in_ok-make_rows.ensures ∙ ap (rows_numbered graph) c.deref-2.ensures.value))
-    (subst (λ (given : List ℕ). IsSortingOf (row_cmp given) (rows_numbered graph kept.rows.items) (rows_numbered graph c.sort_rows.new.rows.items)) c.deref.ensures.value c.in_ok-sort_rows.ensures))
+    solutions_kept graph group columns c.new-kept.result kept c.in_ok-make_rows.field-0.items
+    (subst (λ (names : List (List ℕ)). AreColumnsOf names group.hidden columns) c.as_slice.ensures c.in_ok-columns.ensures)
+    (c.new-kept.ensures ∙ ap (λ (variables : List ℕ). nothing_kept graph variables false) (c.deref.ensures.value ∙ c.in_ok-variables.ensures))
+    c.in_ok-find_rows.ensures
+    (subst (λ (rows : List (List (Option Term))). IsSortingOf (row_cmp columns) kept.rows rows)
+    (sym (c.in_ok-make_rows.ensures ∙ ap (rows_at kept.rows) c.deref-3.ensures.value))
+    (subst (λ (given : List ℕ). IsSortingOf (row_cmp given) kept.rows (rows_at kept.rows c.in_ok-sorted.sorted.items)) c.deref-2.ensures.value c.in_ok-sorted.ensures))
 
 pub returns-clause-few : goal.returns-clause-few
-returns-clause-few c = answered_few c.args.graph.now None false c.no_rows-kept.result c.args.group.now c.no_rows-kept.ensures c.find_rows.new.kept c.in_ok-find_rows.ensures
+returns-clause-few c =
+    answered_few c.args.graph.now c.deref.result.now false c.new-kept.result c.args.group.now c.new-kept.ensures c.find_rows.new.kept c.in_ok-find_rows.ensures
 
 pub returns-in_err-find_rows-clause-too_many : goal.returns-in_err-find_rows-clause-too_many
 returns-in_err-find_rows-clause-too_many c =
     let p = err_from_is_err_and c.from_residual-in_err-find_rows.result c.from_residual-in_err-find_rows.ensures.1 in
-    rw (p.1, p.2) (answered_fault c.args.graph.now None false c.no_rows-kept.result c.args.group.now c.no_rows-kept.ensures _ c.in_err-find_rows.field-0.0 c.find_rows.new.kept c.in_err-find_rows.ensures)
+    rw (p.1, p.2) (answered_fault c.args.graph.now c.deref.result.now false c.new-kept.result c.args.group.now c.new-kept.ensures _ c.in_err-find_rows.field-0.0 c.find_rows.new.kept c.in_err-find_rows.ensures)

@@ -1,7 +1,7 @@
 use Rattle.std.proofs.Common.{◌∙◌, List, ap, rules}
-use Rattle.jrql_ast.specs.declared.patterns.PatternTriple.{PatternTriple}
-use Rattle.jrql_ast.specs.FreshNames.{fresh_name}
-use Rattle.jrql_ast.specs.Templates.{made_from}
+use Rattle.jrql_rows.specs.jrql_ast.declared.patterns.PatternTriple.{PatternTriple}
+use Rattle.jrql_rows.specs.jrql_ast.FreshNames.{fresh_name}
+use Rattle.jrql_rows.specs.jrql_ast.Templates.{made_from}
 use Rattle.jrql_eval.proofs.MadeOnce.{made_in_parts}
 use Rattle.jrql_eval.proofs.templates.made_parted.Goals as goal
 

@@ -1,5 +1,0 @@
-use Rattle.std.proofs.Common.{length}
-use Rattle.jrql_eval.proofs.rows.+cmp_by.Given as goal
-
-abbrev pub decreases-cmp_by : goal.decreases-cmp_by
-decreases-cmp_by l = length l.variables.now

@@ -1,5 +1,0 @@
-use Rattle.std.proofs.Common.{length}
-use Rattle.jrql_eval.proofs.rows.+cmp_rows.Given as goal
-
-abbrev pub decreases-cmp_rows : goal.decreases-cmp_rows
-decreases-cmp_rows l = length l.row.now

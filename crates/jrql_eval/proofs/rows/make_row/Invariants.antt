@@ -1,6 +1,0 @@
-use Rattle.std.proofs.Common.{◌≡◌, take}
-use Rattle.jrql_eval.specs.Bindings.{row_numbered}
-use Rattle.jrql_eval.proofs.rows.make_row.Given as goal
-
-abbrev pub invariant-loop-number : goal.invariant-loop-number
-invariant-loop-number l = l.row.items ≡ row_numbered l.graph (take l.number-index l.numbers)
