@@ -1,3 +1,4 @@
-pub mod WholeValues
+pub mod ColumnLaws
+pub mod ColumnOrder
 pub mod AnswerTexts
 pub mod OneText

@@ -1,7 +1,7 @@
 //! Answers to queries as one line of JSON.
 #![tactic(auto)]
 
-mod items;
+mod columns;
 mod laws;
 mod replies;
 mod rows;

@@ -1,15 +1,17 @@
 //! The text of an answer.
 ghost use Rattle.std.specs.Prelude.{◌≡◌, ◌++◌, ℕ, List, IfOk, OnOk, OnErr};
-ghost use Rattle.rdf_terms.specs.Kept.{KeepsStart};
 ghost use Rattle.jrql_ast.specs.InForm.{IsQueryInForm, IsAnswerTo};
 ghost use Rattle.jrql_reply.specs.AnswerText.{SpellsAnswer};
+ghost use Rattle.jrql_reply.specs.AnswerTokens.{WritesAnswer};
 
-use crate::rows::push_rows;
-use crate::subjects::push_subjects;
+use crate::rows::write_rows;
+use crate::subjects::write_subjects;
 use jrql_ast::{Answer, Query, What};
 use jrql_patterns::ReadQuery;
+use json::Writer;
 use jsonld_context::Context;
 use std::alloc::{AllocError, Global};
+use std::mem;
 
 /// Adds the answer to a query to an output, as one line of compact JSON without its LF: an array with an object for each row, or for each
 /// subject, whose keys are in byte order (JSON-LD 1.1 API, section 8.5). Where memory is wanting, the output is as it was.
@@ -20,12 +22,20 @@ pub fn reply(out: &mut Vec<u8>, answer: &Answer, read: &ReadQuery) -> Result<(),
         × (out.new.items ≡ out.old.items ++ text)) }
     ensures err { OnErr result (out.new.items ≡ out.old.items) }
 {
+    let alloc = *out.allocator();
     let before = out.len();
-    let done = push_answer(out, answer, &read.query, &read.context);
-    if done.is_err() {
-        out.truncate(before);
+    let mut writer = Writer::new(mem::replace(out, Vec::new(alloc)));
+    match write_answer(alloc, &mut writer, answer, &read.query, &read.context) {
+        Ok(()) => {
+            *out = writer.into_inner();
+            Ok(())
+        }
+        Err(fault) => {
+            *out = writer.into_inner();
+            out.truncate(before);
+            Err(fault)
+        }
     }
-    done
 }
 
 /// The text of the answer to a query, without its LF.
@@ -39,21 +49,22 @@ pub fn spell_answer(alloc: Global, answer: &Answer, read: &ReadQuery) -> Result<
     Ok(text)
 }
 
-/// Adds the answer. Where memory is wanting, what stood there still stands in front.
-fn push_answer(
-    out: &mut Vec<u8>,
+/// Writes the answer.
+fn write_answer(
+    alloc: Global,
+    out: &mut Writer,
     answer: &Answer,
     query: &Query,
     context: &Context,
 ) -> Result<(), AllocError>
     requires { IsAnswerTo query.now.what answer.now }
-    ensures ok { OnOk result ((text : List ℕ) × SpellsAnswer context.now query.now answer.now text
-        × (out.new.items ≡ out.old.items ++ text)) }
-    ensures err { OnErr result (KeepsStart out.old.items out.new.items) }
+    ensures ok { OnOk result (WritesAnswer context.now query.now answer.now out.old out.new) }
+    ensures before { out.new.before ≡ out.old.before }
 {
     match answer {
         Answer::Rows(rows) => match &query.what {
-            What::Select(select) => push_rows(
+            What::Select(select) => write_rows(
+                alloc,
                 out,
                 rows.as_slice(),
                 query.group.names.as_slice(),
@@ -62,6 +73,6 @@ fn push_answer(
             ),
             What::Describe(_) => unreachable!(),
         },
-        Answer::Subjects(subjects) => push_subjects(out, subjects.as_slice(), context),
+        Answer::Subjects(subjects) => write_subjects(alloc, out, subjects.as_slice(), context),
     }
 }

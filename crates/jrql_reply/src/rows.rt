@@ -1,105 +1,102 @@
 //! Rows as an array of objects.
-ghost use Rattle.std.specs.Prelude.{◌≡◌, ◌++◌, map, IfOk, OnOk, OnErr};
-ghost use Rattle.serde_json.specs.View.{view, members_view, items_of};
-ghost use Rattle.serde_json.specs.Data.{array, put};
-ghost use Rattle.serde_json.specs.Written.{compact_text};
-ghost use Rattle.rdf_terms.specs.Kept.{KeepsStart};
-ghost use Rattle.jrql_patterns.specs.jsonld_values.TermWriting.{term_data};
-ghost use Rattle.jrql_reply.specs.AnswerText.{row_data, with_variable, name_of};
+ghost use Rattle.std.specs.Prelude.{◌≡◌, None, map, IfOk, OnOk};
+ghost use Rattle.std.specs.Option.{option_copied};
+ghost use Rattle.serde_json.specs.Data.{array, object};
+ghost use Rattle.serde_json.specs.View.{items_of};
+ghost use Rattle.jrql_patterns.specs.jsonld_values.WrittenTokens.{WritesData};
+ghost use Rattle.jrql_reply.specs.AnswerText.{row_data};
+ghost use Rattle.jrql_reply.specs.Columns.{value_at, is_last, members_by, WritesColumn};
 
-use crate::items::push_item;
+use crate::columns::{Column, columns_by_name};
 use jrql_ast::Row;
 use jrql_patterns::jsonld_subjects::write_term;
+use json::Writer;
 use jsonld_context::Context;
 use rdf_terms::Term;
-use serde_json::{Map, Value};
 use std::alloc::{AllocError, Global};
 use text_rules::Text;
 
-/// Adds rows to an output as an array of objects, each with the listed variables that are bound in it. Where memory is wanting, what stood
-/// there still stands in front.
-pub(crate) fn push_rows(
-    out: &mut Vec<u8>,
+/// Writes rows as an array of objects, each with the listed variables that are bound in it.
+pub(crate) fn write_rows(
+    alloc: Global,
+    out: &mut Writer,
     rows: &[Row],
     names: &[Text],
     variables: &[u16],
     context: &Context,
 ) -> Result<(), AllocError>
-    ensures ok { OnOk result (out.new.items ≡ out.old.items
-        ++ compact_text (array (items_of (map (row_data context.now names.now variables.now) rows.now)))) }
-    ensures err { OnErr result (KeepsStart out.old.items out.new.items) }
+    ensures ok { OnOk result
+        (WritesData out.old out.new (array (items_of (map (row_data context.now names.now variables.now) rows.now)))) }
+    ensures before { out.new.before ≡ out.old.before }
 {
-    out.push(b'[')?;
-    let mut later = false;
+    let columns = columns_by_name(alloc, names, variables)?;
+    out.begin_array()?;
     for row in rows {
-        let value = row_value(*out.allocator(), row.as_slice(), names, variables, context)?;
-        push_item(out, later, &value)?;
-        later = true;
+        write_row(alloc, out, row.as_slice(), &columns, context)?;
     }
-    out.push(b']')?;
-    Ok(())
+    out.end_array()
 }
 
-/// A row as an object.
-fn row_value(
+/// Writes a row as an object, by columns in order.
+fn write_row(
     alloc: Global,
+    out: &mut Writer,
     row: &[Option<Term>],
-    names: &[Text],
-    variables: &[u16],
-    context: &Context,
-) -> Result<Value, AllocError>
-    ensures { IfOk result (λ value. view value ≡ row_data context.now names.now variables.now row.now) }
-{
-    let mut members = Map::new(alloc);
-    let mut place = row.len().min(variables.len());
-    while place > 0 {
-        place -= 1;
-        let name = name_of(names, variables[place]);
-        put_variable(alloc, &mut members, name, &row[place], context)?;
-    }
-    Ok(Value::Object(members))
-}
-
-/// The name of the variable of a number.
-fn name_of(names: &[Text], variable: u16) -> &str
-    ensures { result.now ≡ name_of names.now variable }
-{
-    match names.get(usize::from(variable)) {
-        Some(name) => name.as_str(),
-        None => "",
-    }
-}
-
-/// Puts the value of a variable under its name, where it is bound.
-fn put_variable(
-    alloc: Global,
-    members: &mut Map<String, Value>,
-    name: &str,
-    value: &Option<Term>,
+    columns: &[Column<'_>],
     context: &Context,
 ) -> Result<(), AllocError>
-    ensures { OnOk result (members_view members.new.entries
-        ≡ with_variable context.now name.now value.now (members_view members.old.entries)) }
+    ensures ok { OnOk result (WritesData out.old out.new (object (members_by context.now row.now None columns.now))) }
+    ensures before { out.new.before ≡ out.old.before }
 {
-    match value {
-        Some(term) => put_term(alloc, members, name, term, context),
-        None => Ok(()),
+    out.begin_object()?;
+    let mut last = None;
+    for column in columns {
+        last = write_column(alloc, out, row, column, last, context)?;
+    }
+    out.end_object()
+}
+
+/// What a row has at a place.
+fn value_at(row: &[Option<Term>], place: usize) -> Option<&Term>
+    ensures { option_copied result ≡ value_at row.now place }
+{
+    match row.get(place) {
+        Some(value) => value.as_ref(),
+        None => None,
     }
 }
 
-/// Puts a term under a name.
-fn put_term(
-    alloc: Global,
-    members: &mut Map<String, Value>,
-    name: &str,
-    term: &Term,
-    context: &Context,
-) -> Result<(), AllocError>
-    ensures { OnOk result (members_view members.new.entries
-        ≡ put name.now (term_data context.now term.now) (members_view members.old.entries)) }
+/// Whether a name is the last one that was written.
+fn is_last(last: Option<&str>, name: &str) -> bool
+    ensures { result ≡ is_last (option_copied last.entry) name.now }
 {
-    let key = String::from_str(alloc, name)?;
-    let value = write_term(alloc, term, context)?;
-    members.insert(key, value)?;
-    Ok(())
+    match last {
+        Some(text) => name == text,
+        None => false,
+    }
+}
+
+/// Writes the value of a column under its name, where it is bound, and its name isn't the last one that was written; gives the last one
+/// behind it.
+fn write_column<'a>(
+    alloc: Global,
+    out: &mut Writer,
+    row: &[Option<Term>],
+    column: &Column<'a>,
+    last: Option<&'a str>,
+    context: &Context,
+) -> Result<Option<&'a str>, AllocError>
+    ensures ok { IfOk result (λ after. WritesColumn context.now row.now column.now
+        (option_copied last.entry) (option_copied after) out.old out.new) }
+    ensures before { out.new.before ≡ out.old.before }
+{
+    let Some(term) = value_at(row, column.place()) else {
+        return Ok(last);
+    };
+    if is_last(last, column.name()) {
+        return Ok(last);
+    }
+    out.key(column.name())?;
+    write_term(alloc, out, term, context)?;
+    Ok(Some(column.name()))
 }

@@ -5,8 +5,8 @@ pub mod KeyedMembers
 pub mod IdMembers
 pub mod SubjectsGivenBack
 pub mod Runs
+pub mod WrittenRuns
 pub mod KeysMade
-pub mod Putting
 pub mod MemberLaws
 pub mod TypeProperty
 pub mod KeptNames

@@ -17,11 +17,11 @@ use Rattle.rdf_terms.specs.declared.terms.Term.{Term}
 use Rattle.rdf_terms.specs.declared.terms.Term.TheVariants as terms
 use Rattle.serde_json.specs.Data.{Data, null, boolean, number, string, array, object, Num, Members, no_members, member, put}
 use Rattle.jsonld_context.specs.Context.{ContextValue}
-use Rattle.jsonld_context.proofs.TextLaws.{itself, less_differ}
+use Rattle.jsonld_context.proofs.TextLaws.{same, itself, less_differ}
 use Rattle.jsonld_context.specs.Texts.{is_variable}
 use Rattle.jsonld_values.specs.Literals.{xsd_boolean}
 use Rattle.jsonld_values.specs.TermWriting.{plain_number, literal_data, term_data}
-use Rattle.jsonld_subjects.specs.KeyRuns.{BeginsRun, data_of_keyed, data_of_run}
+use Rattle.jsonld_subjects.specs.KeyRuns.{EndsFirstRun, data_of_keyed, data_of_run}
 use Rattle.jsonld_subjects.specs.SubjectWriting.{KeyedTerm, within_key_cmp, keyed_cmp, data_under, with_value, with_keyed, members_of_keyed}
 
 -- ---- keys
@@ -45,11 +45,6 @@ key_below first second order apart = nat_list_cmp_total.antisymm first.key secon
 abbrev pub IsBelowFirst : List ℕ → Members → Type 0
 IsBelowFirst key no_members = Unit {0}
 IsBelowFirst key (member first value rest) = slice_cmp nat_cmp key first ≡ Less
-
--- a value put there goes in front
-pub put_in_front : (key : List ℕ) (value : Data) (behind : Members) → IsBelowFirst key behind → put key value behind ≡ member key value behind
-put_in_front key value no_members below = refl
-put_in_front key value (member first other rest) below = rw below refl
 
 -- values in front of members
 abbrev pub keyed_before : ContextValue → List KeyedTerm → Members → Members
@@ -163,59 +158,7 @@ under_from : (key : List ℕ) (run : List KeyedTerm) → ((at : ℕ) (other : Ke
 under_from key [] same = tt
 under_from key (keyed ∷ rest) same = (same 0 keyed (omega arith), under_from key rest (λ at other h. same (suc at) other (omega arith)))
 
--- ---- the last run of a list
-
--- a list of which the values behind a rest have been written as members: the keys of the rest are below theirs
-pub record IsWriting (context : ContextValue) (all rest : List KeyedTerm) (behind : Members) : Type 0 where
-  pub sorted : IsSorted keyed_cmp rest
-  pub written : keyed_before context rest behind ≡ members_of_keyed context all
-  pub below : (other : KeyedTerm) → 0 < length rest → IsBelowFirst (get_or rest (length rest - 1) other).key behind
-
--- nothing is written at first
-pub none_written : (context : ContextValue) (all : List KeyedTerm) → IsSorted keyed_cmp all → IsWriting context all all no_members
-none_written context all sorted = record {
-  sorted = sorted;
-  written = before_none context all;
-  below = λ other h. tt;
-}
-
--- a front of a list in order is in order
-front_sorted : (values : List KeyedTerm) (place : ℕ) → IsSorted keyed_cmp values → IsSorted keyed_cmp (take place values)
-front_sorted values place sorted k other low high =
-    let long : length (take place values) ≡ min place (length values) = length-take place values in
-    let first : get_or (take place values) k other ≡ get_or values k other = get_or-take place values k other (omega arith) in
-    let second : get_or (take place values) (k + 1) other ≡ get_or values (k + 1) other = get_or-take place values (k + 1) other (omega arith) in
-    rw (first, second) (sorted k other low (omega arith))
-
-module _ (rest : List KeyedTerm) (last : KeyedTerm) (place : ℕ) (some : 0 < length rest) (is : last ≡ get_or rest (length rest - 1) last) (begins : BeginsRun rest last.key place) where
-  -- a run has a value
-  run_some : place < length rest
-  run_some = elim (cases_lt place (length rest)) [
-    | inl less ↦ less
-    | inr all ↦
-        let within = begins.within in
-        let end : place ≡ length rest = omega arith in
-        let same : (get_or rest (place - 1) last).key ≡ last.key = rw end (ap (λ keyed. keyed.key) (sym is)) in
-        absurd (begins.others last (omega arith) same)
-  ]
-
-  -- its values are under the key
-  run_under : AreUnder last.key (drop place rest)
-  run_under = under_from last.key (drop place rest) (λ at other h.
-      let long : length (drop place rest) ≡ length rest - place = length-drop place rest in
-      rw (get_or-drop place rest at other) (begins.same (place + at) other (omega arith) (omega arith)))
-
-  -- the values before it have keys below its own
-  run_above : IsSorted keyed_cmp rest → (other : KeyedTerm) → 0 < place → slice_cmp nat_cmp (get_or rest (place - 1) other).key last.key ≡ Less
-  run_above sorted other h =
-      let inside = run_some in
-      let first = get_or rest (place - 1) other in
-      let second = get_or rest place other in
-      let same : second.key ≡ last.key = begins.same place other (omega arith) inside in
-      let next : (place - 1) + 1 ≡ place = omega arith in
-      let order : is_lt (keyed_cmp second first) ≡ false = subst (λ (n : ℕ). is_lt (keyed_cmp (get_or rest n other) first) ≡ false) next (sorted (place - 1) other (omega arith) (omega arith)) in
-      subst (λ (key : List ℕ). slice_cmp nat_cmp first.key key ≡ Less) same
-      (key_below first second order (λ e. begins.others other h (e ∙ same)))
+-- ---- the first run of a list
 
 -- the values of a run in front of members, by their first one
 run_before_some : (context : ContextValue) (key : List ℕ) (run : List KeyedTerm) (behind : Members) → 0 < length run → AreUnder key run → IsBelowFirst key behind
@@ -223,34 +166,72 @@ run_before_some : (context : ContextValue) (key : List ℕ) (run : List KeyedTer
 run_before_some context key [] behind some under below = absurd (omega arith)
 run_before_some context key (keyed ∷ run) behind some under below = run_before context key keyed run behind under below
 
--- one more run is written: the last one of the rest
-pub one_more_run : (context : ContextValue) (all rest before run : List KeyedTerm) (behind new : Members) (last : KeyedTerm) (place : ℕ) (value : Data)
-    → IsWriting context all rest behind → 0 < length rest → last ≡ get_or rest (length rest - 1) last → BeginsRun rest last.key place
-    → before ≡ take place rest → run ≡ drop place rest → value ≡ run_data context run → new ≡ put last.key value behind → IsWriting context all before new
-one_more_run context all rest before run behind new last place value writing some is begins front back valued made =
-    let key = last.key in
-    let inside : place < length rest = run_some rest last place some is begins in
-    let below : IsBelowFirst key behind = subst (λ (keyed : KeyedTerm). IsBelowFirst keyed.key behind) (sym is) (writing.below last some) in
-    let under : AreUnder key run = subst (AreUnder key) (sym back) (run_under rest last place some is begins) in
-    let long : length run ≡ length rest - place = ap length back ∙ length-drop place rest in
-    let led : new ≡ member key (run_data context run) behind = made ∙ put_in_front key value behind below ∙ ap (λ (v : Data). member key v behind) valued in
-    let whole : before ++ run ≡ rest = (λ i. front i ++ back i) ∙ take-append-drop place rest in
-    let short : length before ≡ place = ap length front ∙ length-take-le place rest (omega arith) in
-    record {
-      sorted = subst (IsSorted keyed_cmp) (sym front) (front_sorted rest place writing.sorted);
-      written =
-          ap (keyed_before context before) (led ∙ sym (run_before_some context key run behind (omega arith) under below))
-          ∙ sym (before_append context before run behind)
-          ∙ ap (λ (values : List KeyedTerm). keyed_before context values behind) whole
-          ∙ writing.written;
-      below = λ other h.
-          let at : get_or before (length before - 1) other ≡ get_or rest (place - 1) other =
-          (λ i. get_or (front i) (short i - 1) other) ∙ get_or-take place rest (place - 1) other (omega arith) in
-          let above : slice_cmp nat_cmp (get_or rest (place - 1) other).key key ≡ Less = run_above rest last place some is begins writing.sorted other (omega arith) in
-          subst (IsBelowFirst (get_or before (length before - 1) other).key) (sym led) (subst (λ (keyed : KeyedTerm). slice_cmp nat_cmp keyed.key key ≡ Less) (sym at) above);
-    }
+-- a key that is below that of a value is below the first key of members that begin with it
+below_keyed : (context : ContextValue) (key : List ℕ) (keyed : KeyedTerm) (members : Members) → slice_cmp nat_cmp key keyed.key ≡ Less → IsBelowFirst key (with_keyed context keyed members)
+below_keyed context key keyed no_members less = less
+below_keyed context key keyed (member first value rest) less = by (is_same keyed.key first) refl
+  where
+    by : (b : Bool) → is_same keyed.key first ≡ b
+        → IsBelowFirst key (if b then member first (with_value (data_of_keyed context keyed) value) rest else member keyed.key (data_of_keyed context keyed) (member first value rest))
+    by true is = subst (λ (other : List ℕ). slice_cmp nat_cmp key other ≡ Less) (same keyed.key first is) less
+    by false is = less
 
--- once nothing is left all is written
-pub all_written : (context : ContextValue) (all rest : List KeyedTerm) (behind : Members) → length rest ≡ 0 → IsWriting context all rest behind → behind ≡ members_of_keyed context all
-all_written context all [] behind none writing = writing.written
-all_written context all (keyed ∷ rest) behind none writing = absurd (omega arith)
+below_members : (context : ContextValue) (key : List ℕ) (values : List KeyedTerm) → ((first : KeyedTerm) → 0 < length values → slice_cmp nat_cmp key (get_or values 0 first).key ≡ Less)
+    → IsBelowFirst key (members_of_keyed context values)
+below_members context key [] below = tt
+below_members context key (keyed ∷ rest) below = below_keyed context key keyed (members_of_keyed context rest) (below keyed (omega arith))
+
+-- the rest of a list in order is in order
+pub rest_sorted : (values : List KeyedTerm) (place : ℕ) → IsSorted keyed_cmp values → IsSorted keyed_cmp (drop place values)
+rest_sorted values place sorted k other low high =
+    let long : length (drop place values) ≡ length values - place = length-drop place values in
+    let next : place + (k + 1) ≡ (place + k) + 1 = omega arith in
+    let first : get_or (drop place values) k other ≡ get_or values (place + k) other = get_or-drop place values k other in
+    let second : get_or (drop place values) (k + 1) other ≡ get_or values ((place + k) + 1) other =
+    get_or-drop place values (k + 1) other ∙ ap (λ (n : ℕ). get_or values n other) next in
+    rw (first, second) (sorted (place + k) other (omega arith) (omega arith))
+
+module _ (context : ContextValue) (rest : List KeyedTerm) (first : KeyedTerm) (place : ℕ) (some : 0 < length rest) (is : get_or rest 0 first ≡ first) (sorted : IsSorted keyed_cmp rest)
+    (ends : EndsFirstRun rest first.key place) where
+  -- a run has a value
+  run_some : 0 < place
+  run_some = elim (cases_lt 0 place) [
+    | inl less ↦ less
+    | inr all ↦
+        let begin : place ≡ 0 = omega arith in
+        absurd (ends.others first (omega arith) (rw begin (ap (λ (keyed : KeyedTerm). keyed.key) is)))
+  ]
+
+  -- its values are under the key
+  run_under : AreUnder first.key (take place rest)
+  run_under = under_from first.key (take place rest) (λ at other h.
+      let within = ends.within in
+      let long : length (take place rest) ≡ place = length-take-le place rest within in
+      rw (get_or-take place rest at other (omega arith)) (ends.same at other (omega arith)))
+
+  -- the values behind it have keys above its own
+  run_above : (other : KeyedTerm) → 0 < length (drop place rest) → slice_cmp nat_cmp first.key (get_or (drop place rest) 0 other).key ≡ Less
+  run_above other h =
+      let long : length (drop place rest) ≡ length rest - place = length-drop place rest in
+      let begun = run_some in
+      let last = get_or rest (place - 1) other in
+      let next = get_or rest place other in
+      let under : last.key ≡ first.key = ends.same (place - 1) other (omega arith) in
+      let step : (place - 1) + 1 ≡ place = omega arith in
+      let order : is_lt (keyed_cmp next last) ≡ false = subst (λ (n : ℕ). is_lt (keyed_cmp (get_or rest n other) last) ≡ false) step (sorted (place - 1) other (omega arith) (omega arith)) in
+      let less : slice_cmp nat_cmp last.key next.key ≡ Less = key_below last next order (λ e. ends.others other (omega arith) (sym e ∙ under)) in
+      let here : place + 0 ≡ place = omega arith in
+      let at : get_or (drop place rest) 0 other ≡ next = get_or-drop place rest 0 other ∙ ap (λ (n : ℕ). get_or rest n other) here in
+      rw at (subst (λ (key : List ℕ). slice_cmp nat_cmp key next.key ≡ Less) under less)
+
+  -- the members of a list begin with that of its first run
+  pub run_in_front : members_of_keyed context rest ≡ member first.key (run_data context (take place rest)) (members_of_keyed context (drop place rest))
+  run_in_front =
+      let within = ends.within in
+      let long : length (take place rest) ≡ place = length-take-le place rest within in
+      let begun = run_some in
+      sym (before_none context rest)
+      ∙ ap (λ (values : List KeyedTerm). keyed_before context values no_members) (sym (take-append-drop place rest))
+      ∙ before_append context (take place rest) (drop place rest) no_members
+      ∙ ap (keyed_before context (take place rest)) (before_none context (drop place rest))
+      ∙ run_before_some context first.key (take place rest) (members_of_keyed context (drop place rest)) (omega arith) run_under (below_members context first.key (drop place rest) run_above)

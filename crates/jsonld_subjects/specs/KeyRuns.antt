@@ -1,5 +1,5 @@
 -- Runs of values that stand under one key.
-use Rattle.std.specs.Prelude.{◌≡◌, ◌≢◌, ℕ, ◌<◌, ◌≤◌, ◌-◌, List, [], ◌∷◌, length, slice_index_or}
+use Rattle.std.specs.Prelude.{◌≡◌, ◌≢◌, ℕ, ◌<◌, ◌≤◌, List, [], ◌∷◌, length, slice_index_or}
 use Rattle.serde_json.specs.Data.{Data, array, no_items}
 use Rattle.serde_json.specs.View.{items_of}
 use Rattle.jsonld_context.specs.Context.{ContextValue}
@@ -15,8 +15,8 @@ data_of_run [] = array no_items
 data_of_run (value ∷ []) = value
 data_of_run (value ∷ other ∷ more) = array (items_of (value ∷ other ∷ more))
 
--- the last values of a list, from a place on, are those of a key
-pub record BeginsRun (values : List KeyedTerm) (key : List ℕ) (place : ℕ) : Type 0 where
+-- the first values of a list, up to a place, are those of a key
+pub record EndsFirstRun (values : List KeyedTerm) (key : List ℕ) (place : ℕ) : Type 0 where
   pub within : place ≤ length values
-  pub same : (at : ℕ) (other : KeyedTerm) → place ≤ at → at < length values → (slice_index_or values at other).key ≡ key
-  pub others : (other : KeyedTerm) → 0 < place → (slice_index_or values (place - 1) other).key ≢ key
+  pub same : (at : ℕ) (other : KeyedTerm) → at < place → (slice_index_or values at other).key ≡ key
+  pub others : (other : KeyedTerm) → place < length values → (slice_index_or values place other).key ≢ key

@@ -1,17 +1,17 @@
 //! Terms under the keys of a subject.
-ghost use Rattle.std.specs.Prelude.{◌≡◌, IfOk, codes, if◌then◌else◌};
+ghost use Rattle.std.specs.Prelude.{◌≡◌, IfOk, OnOk, codes, if◌then◌else◌};
 ghost use Rattle.rdf_terms.specs.Literal.{is_same};
 ghost use Rattle.serde_json.specs.Data.{string};
-ghost use Rattle.serde_json.specs.View.{view};
 ghost use Rattle.jsonld_context.specs.ShortForms.{compact_key};
+ghost use Rattle.jsonld_values.specs.WrittenTokens.{WritesData};
 ghost use Rattle.jsonld_subjects.specs.SubjectReading.{rdf_type};
 ghost use Rattle.jsonld_subjects.specs.SubjectWriting.{key_of, keyed_of, keyed_cmp, data_under};
 
 use crate::ids::RDF_TYPE;
 use crate::property_keys::PropertyKeys;
+use json::Writer;
 use jsonld_values::write_term;
 use rdf_terms::{Iri, Term, Triple, cmp_reply};
-use serde_json::Value;
 use std::alloc::{AllocError, Global};
 use std::cmp::Ordering;
 use std::marker::Model;
@@ -57,16 +57,18 @@ impl KeyedTerm {
         self.key.as_str()
     }
 
-    /// The JSON value of the term under the key.
+    /// Writes the JSON value of the term under the key.
     pub(crate) fn write(
         &self,
         alloc: Global,
+        out: &mut Writer,
         keys: &mut PropertyKeys<'_>,
-    ) -> Result<Value, AllocError>
-        ensures value { IfOk result (λ value. view value ≡ data_under keys.old self.now.key self.now.term) }
+    ) -> Result<(), AllocError>
+        ensures ok { OnOk result (WritesData out.old out.new (data_under keys.old self.now.key self.now.term)) }
+        ensures before { out.new.before ≡ out.old.before }
         ensures context { keys.new ≡ keys.old }
     {
-        write_under(alloc, self.key.as_str(), &self.term, keys)
+        write_under(alloc, out, self.key.as_str(), &self.term, keys)
     }
 
     /// Compares by keys, and under one key in the order of replies.
@@ -120,38 +122,40 @@ fn key_of_iri(
     keys.key(alloc, property)
 }
 
-/// The JSON value of a term under a key.
+/// Writes the JSON value of a term under a key.
 fn write_under(
     alloc: Global,
+    out: &mut Writer,
     key: &str,
     term: &Term,
     keys: &mut PropertyKeys<'_>,
-) -> Result<Value, AllocError>
-    ensures value { IfOk result (λ value. view value ≡ data_under keys.old key.now term.now) }
+) -> Result<(), AllocError>
+    ensures ok { OnOk result (WritesData out.old out.new (data_under keys.old key.now term.now)) }
+    ensures before { out.new.before ≡ out.old.before }
     ensures context { keys.new ≡ keys.old }
 {
     match term {
         Term::Iri(iri) => {
             if key == TYPE_KEY {
-                return write_type(alloc, iri, keys);
+                return write_type(alloc, out, iri, keys);
             }
-            write_term(alloc, term, keys.context())
+            write_term(alloc, out, term, keys.context())
         }
-        Term::Literal(_) => write_term(alloc, term, keys.context()),
+        Term::Literal(_) => write_term(alloc, out, term, keys.context()),
     }
 }
 
-/// An IRI as a value of `@type`.
-fn write_type(alloc: Global, iri: &Iri, keys: &mut PropertyKeys<'_>) -> Result<Value, AllocError>
-    ensures value { IfOk result (λ value. view value ≡ string (compact_key keys.old iri.now)) }
+/// Writes an IRI as a value of `@type`.
+fn write_type(
+    alloc: Global,
+    out: &mut Writer,
+    iri: &Iri,
+    keys: &mut PropertyKeys<'_>,
+) -> Result<(), AllocError>
+    ensures ok { OnOk result (WritesData out.old out.new (string (compact_key keys.old iri.now))) }
+    ensures before { out.new.before ≡ out.old.before }
     ensures context { keys.new ≡ keys.old }
 {
-    text_value(alloc, keys.key(alloc, iri)?.as_str())
-}
-
-/// A text as a JSON string.
-pub(crate) fn text_value(alloc: Global, text: &str) -> Result<Value, AllocError>
-    ensures { IfOk result (λ value. view value ≡ string text.now) }
-{
-    Ok(Value::String(String::from_str(alloc, text)?))
+    let key = keys.key(alloc, iri)?;
+    out.string(key.as_str())
 }

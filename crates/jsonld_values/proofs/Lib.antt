@@ -7,3 +7,5 @@ pub mod ValueParts
 pub mod NumberingLaws
 pub mod Meeting
 pub mod Mapped
+pub mod WrittenItems
+pub mod WrittenObjects

@@ -17,4 +17,4 @@ pub use literals::{boolean_object, number_object, string_object};
 pub use names::Names;
 pub use numbering::{number_filter, number_slot, number_triples};
 pub use value_objects::{has_member, value_object};
-pub use writing::write_term;
+pub use writing::{write_id, write_term};

@@ -2,7 +2,7 @@
 //! is one of its kind.
 use crate::held::Held;
 use crate::texts::{pair_of, text_of};
-use crate::{contexts, pairs, parts, queries, subjects, terms, written};
+use crate::{answers, contexts, pairs, parts, queries, subjects, terms, written};
 use serde_json::Value;
 use std::alloc::{AllocError, Global};
 use transcripts::{Case, Tries, parted};
@@ -19,6 +19,7 @@ pub fn put(
         "short" => contexts::put_short(alloc, out, held, input),
         "query" => queries::put_query(alloc, out, input),
         "update" => queries::put_update(alloc, out, input),
+        "rows" => answers::put(alloc, out, input),
         "written" | "again" => written::put(alloc, out, held, case.word, input),
         "names" | "since" | "mark" => parts::put(alloc, out, held, case.word, input),
         "context" => {

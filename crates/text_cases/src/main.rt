@@ -1,6 +1,7 @@
 //! Runs the cases of each file of the folder where it runs, and writes each of them that gives something else than it has to give.
 #![tactic(auto)]
 
+mod answers;
 mod contexts;
 mod faults;
 mod held;

@@ -34,3 +34,14 @@ pub fn put_value(alloc: Global, out: &mut String, value: &Value) -> Result<bool,
     out.push_str(written.as_str())?;
     Ok(true)
 }
+
+/// Puts a text that was written.
+pub fn put_text(out: &mut String, text: &[u8]) -> Result<bool, AllocError> {
+    match str::from_utf8(text) {
+        Ok(text) => {
+            out.push_str(text)?;
+            Ok(true)
+        }
+        Err(_) => Ok(false),
+    }
+}

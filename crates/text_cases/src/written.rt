@@ -2,8 +2,9 @@
 //! triples that this text says in a pattern.
 use crate::held::Held;
 use crate::subjects::put_alone;
-use crate::texts::put_value;
+use crate::texts::put_text;
 use jrql_ast::{Described, Sequence};
+use json::Writer;
 use jsonld_context::Context;
 use jsonld_subjects::{Place, PropertyKeys, write_subject};
 use rdf_terms::{Iri, Triple, read_triple};
@@ -46,23 +47,35 @@ fn put_subject(
     word: &str,
     subject: &Described,
 ) -> Result<bool, AllocError> {
-    let mut keys = Box::new(alloc, PropertyKeys::under(alloc, context))?;
-    let value = Box::new(alloc, write_subject(alloc, subject, &mut keys)?)?;
-    put_said(alloc, out, context, word, &value)
+    let text = Box::new(alloc, text_of(alloc, context, subject)?)?;
+    if word == "written" {
+        put_text(out, text.as_slice())
+    } else {
+        put_said(alloc, out, context, text.as_slice())
+    }
 }
 
-/// Puts the text of a value, or what it says in a pattern.
+/// The text of a subject.
+fn text_of(alloc: Global, context: &Context, subject: &Described) -> Result<Vec<u8>, AllocError> {
+    let mut keys = Box::new(alloc, PropertyKeys::under(alloc, context))?;
+    let mut writer = Writer::new(Vec::new(alloc));
+    write_subject(alloc, &mut writer, subject, &mut keys)?;
+    Ok(writer.into_inner())
+}
+
+/// Puts what a text says in a pattern.
 fn put_said(
     alloc: Global,
     out: &mut String,
     context: &Context,
-    word: &str,
-    value: &Value,
+    text: &[u8],
 ) -> Result<bool, AllocError> {
-    if word == "written" {
-        put_value(alloc, out, value)
-    } else {
-        put_alone(alloc, out, context, "named", Place::Pattern, value)
+    match Value::from_slice(alloc, text) {
+        Ok(value) => {
+            let value = Box::new(alloc, value)?;
+            put_alone(alloc, out, context, "named", Place::Pattern, &value)
+        }
+        Err(_) => Ok(false),
     }
 }
 
