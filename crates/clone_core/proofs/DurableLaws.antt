@@ -1,5 +1,7 @@
 -- Laws of the changes that a clone's calls make of what its banks keep.
-use Rattle.std.proofs.Common.{◌≡◌, ◌∙◌, ℕ, ◌*◌, List, [], ◌∷◌, ◌↔◌, Option, None, Some, Result, Ok, Err, IsOk, IfOk, IsErrOf, length, inl, inr, refl, sym, ap, subst}
+use Rattle.std.proofs.Common.{◌≡◌, ◌≢◌, ◌∙◌, ℕ, ◌*◌, List, [], ◌∷◌, ◌↔◌, Option, None, Some, Result, Ok, Err, IsOk, IfOk, IsErrOf, length, inl, inr, refl, sym, ap, subst}
+use Rattle.tree_clock.specs.Clock.{ticks_of}
+use Rattle.tree_clock.specs.Limits.{tick_limit}
 use Rattle.mld_io.specs.Arm.{Meter, Metered}
 use Rattle.mld_io.specs.Disk.{Log}
 use Rattle.mld_ops.specs.Entry.{EntryValue}
@@ -175,9 +177,9 @@ module _ {B : Type 0} (log : B → Option Log) (meter : B → Meter) (old new : 
   makes_update result ok made = (made.0, steps_make result ok made.0 made.1, made.2)
 
 -- those of the effect of a plan are those of an update
-module _ (old : LocalClone) (plan : UpdatePlan) (effect : EffectValue) (has : HasEffect old plan effect) (may : IsMakeable old effect) where
+module _ (old : LocalClone) (plan : UpdatePlan) (effect : EffectValue) (left : ticks_of old.ticks old.path ≢ tick_limit) (has : HasEffect old plan effect) (may : IsMakeable old effect) where
   planned : (steps : List KeptStep) → AppendsOwn old effect steps → AppendsPlanned old plan steps
-  planned steps h = record { due = record { effect = effect; has = has; may = may }; appends = h }
+  planned steps h = record { due = record { left = left; effect = effect; has = has; may = may }; appends = h }
 
   would_plan : (stop : Option Why) (steps : List KeptStep) → RefusedSteps (AppendsOwn old effect) stop steps → RefusedSteps (AppendsPlanned old plan) stop steps
   would_plan None steps h = h

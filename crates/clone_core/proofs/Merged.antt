@@ -26,14 +26,14 @@ module _ (old : LocalClone) (snapshot : SnapshotValue) (merge : Merge) (of : IsM
   -- what is released may stand behind the base
   pub released_ready : AreReadyEntries merge.base.ticks merge.after.entries.items
   released_ready =
-      leads_ready merge.base.ticks merge.base.ticks merge.base_pairs.items merge.after.entries.items merge.after.clock.ticks merge.after.pairs.pairs (λ path. refl) of.released.leads
+      leads_ready merge.base.ticks merge.base.ticks merge.base_pairs merge.after.entries.items merge.after.clock.ticks merge.after.pairs.pairs (λ path. refl) of.released.leads
 
   module _ (held : List EntryValue) (is : held ≡ left_of merge.after.left old.held) where
     -- the clone then
     abbrev pub merged_clone : LocalClone
     merged_clone = record old {
       base = merge.base.ticks;
-      base_pairs = merge.base_pairs.items;
+      base_pairs = merge.base_pairs;
       entries = merge.after.entries.items;
       held = held;
       ticks = merge.after.clock.ticks;
@@ -59,7 +59,7 @@ module _ (old : LocalClone) (snapshot : SnapshotValue) (merge : Merge) (of : IsM
         merged_local old snapshot merged_clone merge.after.ranges of.base_covered of.released.covered (omega (arith, shorter, few, same)) local (clone_merges lacks)
 
   -- the step that the clone would make, by a swap and an append for each entry
-  pub merged_step : ¬ KnowsSnapshot old snapshot → (head : HeadValue) → head ≡ head_over old merge.base.ticks merge.base_pairs.items
+  pub merged_step : ¬ KnowsSnapshot old snapshot → (head : HeadValue) → head ≡ head_over old merge.base.ticks merge.base_pairs
       → (entries : List EntryValue) → entries ≡ merge.after.entries.items
       → (new : LocalClone) × (ranges : List Range) × LocallyMerges old snapshot new ranges × (Swapped head [] ∷ appends entries ≡ merged_steps new)
   merged_step lacks head head_is entries are = (

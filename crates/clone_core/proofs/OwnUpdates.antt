@@ -1,9 +1,10 @@
 -- What the entry of an effect does is the operation of the effect.
-use Rattle.std.proofs.Common.{◌≡◌, ◌∙◌, ◌+◌, ℕ, List, Option, inl, refl, sym, ap, subst}
+use Rattle.std.proofs.Common.{◌≡◌, ◌≢◌, ◌∙◌, ◌+◌, ℕ, List, Option, inl, refl, sym, ap, subst}
 use Rattle.mld_io.specs.Arm.{Meter}
 use Rattle.mld_io.specs.Disk.{Log}
 use Rattle.tree_clock.specs.declared.dots.Dot.{Dot}
 use Rattle.tree_clock.specs.Clock.{ticks_of}
+use Rattle.tree_clock.specs.Limits.{tick_limit}
 use Rattle.mld_ops.specs.declared.tagged.Tagged.{Tagged}
 use Rattle.mld_ops.specs.Breaches.{BreaksNone, IsFirstBreach}
 use Rattle.mld_ops.specs.Effects.{EffectValue, ChangesNothing}
@@ -66,6 +67,11 @@ has_effect clone plan domain path ticks tick pairs effect named along known last
     subst (λ (d : List ℕ). IsPlanEffect d (next_dot clone) clone.pairs plan effect) named
     (subst (λ (d : Dot). IsPlanEffect domain d clone.pairs plan effect) at
     (subst (λ (ps : List Tagged). IsPlanEffect domain (dot_at path (tick + 1)) ps plan effect) from has))
+
+-- a tick is left where the last one of the path isn't the last of all
+pub tick_left : (clone : LocalClone) (path : List ℕ) (ticks : List (List ℕ × ℕ)) (tick : ℕ) → path ≡ clone.path → ticks ≡ clone.ticks → tick ≡ ticks_of ticks path → tick ≢ tick_limit
+    → ticks_of clone.ticks clone.path ≢ tick_limit
+tick_left clone path ticks tick along known last some is = some (last ∙ (λ i. ticks_of (known i) (along i)) ∙ is)
 
 -- what became of the effect of a plan became of the update
 pub updates_plan : (old : LocalClone) (plan : UpdatePlan) (effect : EffectValue) (new : LocalClone) (answer : Done) → HasEffect old plan effect

@@ -1,5 +1,5 @@
 -- What a refused call leaves of a clone. `left` of `MldClone::update`, `receive`, `compact` and `truncate` cites it, and `err` of `genesis`.
-use Rattle.std.specs.Prelude.{◌≡◌, ◌⊎◌, ◌+◌, Option, None, Some, Result, Ok, Err}
+use Rattle.std.specs.Prelude.{◌≡◌, ◌≢◌, ◌⊎◌, ◌+◌, ◌-◌, ◌^◌, Option, None, Some, Result, Ok, Err}
 use Rattle.mld_io.specs.Arm.{Meter}
 use Rattle.mld_io.specs.Disk.{Log}
 use Rattle.journal_store.specs.Closing.{WasCalled}
@@ -60,8 +60,9 @@ pub record StaysOpen {B : Type 0} (old new : BankedClone B) : Type 0 where
   pub opened : new.closed ≡ None
   pub generation : new.generation ≡ old.generation
 
--- a clone whose banks were swapped is open, and what they keep is of the next generation
+-- a clone whose banks were swapped had a generation left for it and is open, and what they keep is of the next generation
 pub record IsSwappedOpen {B : Type 0} (old new : BankedClone B) : Type 0 where
+  pub left : old.generation ≢ 2 ^ 64 - 1
   pub opened : new.closed ≡ None
   pub generation : new.generation ≡ old.generation + 1
 

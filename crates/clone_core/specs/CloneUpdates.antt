@@ -1,5 +1,7 @@
 -- What a clone answers to an update, and what such a one has to do on its banks. `MldClone::update` cites it.
-use Rattle.std.specs.Prelude.{◌≡◌, ℕ, List}
+use Rattle.std.specs.Prelude.{◌≡◌, ◌≢◌, ℕ, List}
+use Rattle.tree_clock.specs.Clock.{ticks_of}
+use Rattle.tree_clock.specs.Limits.{tick_limit}
 use Rattle.tree_clock.specs.Lists.{Has}
 use Rattle.mld_ops.specs.declared.tagged.Tagged.{Tagged}
 use Rattle.mld_ops.specs.Breaches.{IsFirstBreach, BreaksNone}
@@ -53,8 +55,9 @@ RefusesUpdate clone plan update.TicksSpent = Unit {0}
 RefusesUpdate clone plan update.Device = Unit {0}
 RefusesUpdate clone plan update.NoMemory = Unit {0}
 
--- an update has an operation to append: its plan has an effect, and the clone may make the operation of that
+-- an update has an operation to append: the clone has a tick left for it, its plan has an effect, and the clone may make the operation of that
 pub record IsDueUpdate (clone : LocalClone) (plan : UpdatePlan) : Type 0 where
+  pub left : ticks_of clone.ticks clone.path ≢ tick_limit
   pub effect : EffectValue
   pub has : HasEffect clone plan effect
   pub may : IsMakeable clone effect

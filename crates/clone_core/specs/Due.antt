@@ -25,18 +25,27 @@ pub record IsDueSnapshot (clone : LocalClone) (snapshot : SnapshotValue) : Type 
   pub own : ¬ IsForeignSnapshot clone snapshot
   pub lacks : ¬ KnowsSnapshot clone snapshot
 
--- a clone has a swap to do (`Due`), and a generation left for it
-pub record IsDueSwap {B : Type 0} (Due : Type 0) (clone : BankedClone B) : Type 0 where
-  pub due : Due
-  pub left : clone.generation ≢ 2 ^ 64 - 1
+-- What a message has a clone make, generations aside: a range is taken, a leaf is given, or a snapshot is merged. By a want, and by a leaf that is given,
+-- a clone makes nothing.
+abbrev pub HasToMake : LocalClone → Message → Type 0
+HasToMake clone (message.Range entry) = IsDueEntry clone entry
+HasToMake clone (message.JoinAsk id) = IsDueAsk clone id
+HasToMake clone (message.Snapshot snapshot) = IsDueSnapshot clone (snapshot_value snapshot)
+HasToMake clone (message.Want clock) = ⊥
+HasToMake clone (message.JoinGive give) = ⊥
 
--- so it is for a message; a snapshot is merged by a swap
+-- a clone has a swap to do (`Due`), and a generation left for it behind this one
+pub record IsDueSwap (Due : Type 0) (generation : ℕ) : Type 0 where
+  pub due : Due
+  pub left : generation ≢ 2 ^ 64 - 1
+
+-- so it is for a message, where the banks keep this generation; a snapshot is merged by a swap
+abbrev pub IsDueAt : ℕ → LocalClone → Message → Type 0
+IsDueAt generation clone (message.Snapshot snapshot) = IsDueSwap (HasToMake clone (message.Snapshot snapshot)) generation
+IsDueAt generation clone other = HasToMake clone other
+
 abbrev pub IsDueMessage : {B : Type 0} → BankedClone B → Message → Type 0
-IsDueMessage clone (message.Range entry) = IsDueEntry clone.local entry
-IsDueMessage clone (message.JoinAsk id) = IsDueAsk clone.local id
-IsDueMessage clone (message.Snapshot snapshot) = IsDueSwap (IsDueSnapshot clone.local (snapshot_value snapshot)) clone
-IsDueMessage clone (message.Want clock) = ⊥
-IsDueMessage clone (message.JoinGive give) = ⊥
+IsDueMessage clone sent = IsDueAt clone.generation clone.local sent
 
 -- what is due by a message is a swap, behind which there may be appends: it is a snapshot
 abbrev pub IsSwapDue : Message → Type 0

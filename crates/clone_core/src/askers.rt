@@ -176,10 +176,14 @@ impl<B: Banks> Asker<B> {
         ensures { MatchOption result (GivesNone self.now.asker message.now) (λ give.
             IsGiveFor self.now.asker message.now give.now) }
     {
-        match message {
-            Message::JoinGive(give) if give.id == self.id => Some(give),
-            _ => None,
+        let Message::JoinGive(given) = message else {
+            return None;
+        };
+        let give = given.give();
+        if give.id != self.id {
+            return None;
         }
+        Some(give)
     }
 }
 

@@ -11,7 +11,7 @@ use clone_parts::{
 use graph_index::Graph;
 use journal_store::{Blank, Head, Journal, MakeFault, Why};
 use mld_io::{Banks, CrashBanks, Leave};
-use mld_ops::{Entry, Give, Message, Messages, Snapshot, Tagged, kept_properties};
+use mld_ops::{Entry, Give, Given, Message, Messages, PairList, Snapshot, Tagged, kept_properties};
 use rdf_terms::Iri;
 use std::alloc::{AllocError, Global};
 use std::marker::Model;
@@ -29,7 +29,7 @@ pub struct MldClone<B: Banks> {
     pub(crate) properties: Vec<Iri>,
     pub(crate) leaf: Leaf,
     pub(crate) base: Clock,
-    pub(crate) base_pairs: Vec<Tagged>,
+    pub(crate) base_pairs: PairList,
     pub(crate) clock: Clock,
     pub(crate) entries: Vec<Entry>,
     pub(crate) held: Held,
@@ -105,7 +105,7 @@ impl<B: Banks> MldClone<B> {
             props: kept_properties(properties),
             path: Path::root(),
             base: Clock::empty(alloc),
-            tagged: Vec::new(alloc),
+            tagged: PairList::new(alloc),
         };
         match create(alloc, blank, &head) {
             Ok(journal) => Ok(MldClone::beginning(
@@ -134,7 +134,7 @@ impl<B: Banks> MldClone<B> {
         requires base { IsGoodSnapshot (head_value head).base }
         requires path { leaf ≡ head.path }
         requires clock { clock.ticks ≡ head.base.ticks }
-        requires pairs { pairs.pairs ≡ head.tagged.items }
+        requires pairs { pairs.pairs ≡ head.tagged }
         requires begins { BeginsJournal (head_value head) journal (B.log journal.banks) }
         ensures { result
             ≡ record { local = begun_clone (head_value head); generation = 1; closed = None; banks = journal.banks } }
@@ -227,10 +227,10 @@ impl<B: Banks> MldClone<B> {
     }
 
     /// The pairs of the clone's base, ascending.
-    pub fn base_pairs(&self) -> &[Tagged]
+    pub fn base_pairs(&self) -> &PairList
         ensures { result.now ≡ self.now.local.base_pairs }
     {
-        self.base_pairs.as_slice()
+        &self.base_pairs
     }
 
     /// The entries of the clone's journal, in the order in which it took them.
@@ -303,6 +303,33 @@ impl<B: Banks> MldClone<B> {
             → KeepsClone self.local self.generation log }
     {
         self.journal.into_banks()
+    }
+
+    /// The pairs of the clone, ascending, moved out of it, and its banks: the clone stops. All else that it has is let go before the list
+    /// is made.
+    ///
+    /// # Errors
+    ///
+    /// `AllocError` where memory is wanting; the banks are let go then.
+    pub fn into_tagged(self, alloc: Global) -> Result<(Vec<Tagged>, B), AllocError>
+        ensures pairs { IfOk result (λ left. left.0.items ≡ self.local.pairs) }
+        ensures banks { IfOk result (λ left. left.1 ≡ self.banks) }
+        ensures kept { self.closed ≡ None → IfOk result (λ left. (log : Log) → B.log left.1 ≡ Some log
+            → KeepsClone self.local self.generation log) }
+    {
+        let (pairs, banks) = self.into_parts();
+        let list = pairs.into_list(alloc)?;
+        Ok((list, banks))
+    }
+
+    // The pairs of the clone, and its banks. All else that it has is let go. It takes no memory.
+    fn into_parts(self) -> (Graph, B)
+        ensures pairs { (result.0).pairs ≡ self.local.pairs }
+        ensures banks { result.1 ≡ self.banks }
+        ensures kept { self.closed ≡ None → (log : Log) → B.log result.1 ≡ Some log
+            → KeepsClone self.local self.generation log }
+    {
+        (self.pairs, self.journal.into_banks())
     }
 
     // Whether the generation of what the banks keep is the last one, so that nothing can be swapped.
@@ -391,7 +418,7 @@ impl<B: Banks> MldClone<B> {
     }
 
     // Forks the leaf, which is not too deep, for who asks by another id: it keeps the left half, and the right one is given with all that
-    // the clone has.
+    // the clone has. The message is made before anything changes.
     fn give(&mut self, alloc: Global, id: &Uuid) -> Result<Got, ReceiveFault>
         requires opened { self.old.closed ≡ None }
         requires due { IsDueAsk self.old.local id.now }
@@ -405,14 +432,18 @@ impl<B: Banks> MldClone<B> {
             × Changes B.log B.meter steps self.old self.new.banks (IsOk result) (IsErrOf result ReceiveFault.Device) }
     {
         let snapshot = self.snapshot(alloc)?;
+        let given = Given::new(
+            alloc,
+            Give {
+                id: *id,
+                path: self.path().child(true),
+                snapshot,
+            },
+        )?;
         let mut messages = Vec::with_capacity(alloc, 1)?;
         append_fork(&mut self.journal)?;
-        let right = self.leaf.give().unwrap();
-        messages.push_reserved(Message::JoinGive(Give {
-            id: *id,
-            path: right.path(),
-            snapshot,
-        }));
+        self.leaf.give().unwrap();
+        messages.push_reserved(Message::JoinGive(given));
         Ok(Got::Answer(Messages::from_vec(messages)))
     }
 
@@ -423,7 +454,7 @@ impl<B: Banks> MldClone<B> {
     {
         Ok(Snapshot {
             clock: self.clock.copy_in(alloc)?,
-            tagged: self.pairs.to_list(alloc)?,
+            tagged: self.pairs.to_pairs(alloc)?,
         })
     }
 

@@ -3,7 +3,7 @@ use crate::clones::MldClone;
 use clone_parts::{KeepFault, swap_kept};
 use journal_store::Head;
 use mld_io::Banks;
-use mld_ops::{Tagged, copy_pairs, copy_properties};
+use mld_ops::{PairList, copy_properties};
 use op_fusion::{compact_entries, has_neighbours};
 use std::alloc::{AllocError, Global};
 use tree_clock::Clock;
@@ -39,8 +39,8 @@ impl<B: Banks> MldClone<B> {
         ensures spent { IsErrOf result KeepFault.GenerationsSpent
             ↔ (IsSpent (HasNeighbours self.old.local.entries) self.old × ¬ IsErrOf result KeepFault.NoMemory) }
         ensures left { IfErr result (λ fault.
-            LeavesClone B.log B.meter (IsDueSwap (HasNeighbours self.old.local.entries) self.old) ⊥ self.old self.new
-            (keep_stop fault)) }
+            LeavesClone B.log B.meter (IsDueSwap (HasNeighbours self.old.local.entries) self.old.generation) ⊥
+            self.old self.new (keep_stop fault)) }
         ensures durable { (steps : List KeptStep)
             × KeepSteps (HasNeighbours self.old.local.entries)
             (LocallyCompacts self.old.local) self.new.local result steps
@@ -62,12 +62,12 @@ impl<B: Banks> MldClone<B> {
     // Swaps what the banks keep for the compacted journal, and then the entries.
     fn swap_compacted(&mut self, alloc: Global) -> Result<(), KeepFault>
         requires opened { self.old.closed ≡ None }
-        requires due { IsDueSwap (HasNeighbours self.old.local.entries) self.old }
+        requires due { IsDueSwap (HasNeighbours self.old.local.entries) self.old.generation }
         ensures ok { OnOk result (LocallyCompacts self.old.local self.new.local) }
         ensures opened { OnOk result (IsSwappedOpen self.old self.new) }
         ensures left { IfErr result (λ fault.
-            StopsClone B.log B.meter (IsDueSwap (HasNeighbours self.old.local.entries) self.old) ⊥ self.old self.new
-            (keep_stop fault)) }
+            StopsClone B.log B.meter (IsDueSwap (HasNeighbours self.old.local.entries) self.old.generation) ⊥
+            self.old self.new (keep_stop fault)) }
         ensures durable { (steps : List KeptStep)
             × KeepSteps (HasNeighbours self.old.local.entries)
             (LocallyCompacts self.old.local) self.new.local result steps
@@ -75,7 +75,7 @@ impl<B: Banks> MldClone<B> {
     {
         let entries = compact_entries(alloc, &self.entries)?;
         let base = self.base.copy_in(alloc)?;
-        let pairs = copy_pairs(alloc, &self.base_pairs)?;
+        let pairs = self.base_pairs.copy_in(alloc)?;
         let head = self.head_over(alloc, base, pairs)?;
         swap_kept(alloc, &mut self.journal, &head, &entries)?;
         self.entries = entries;
@@ -87,9 +87,9 @@ impl<B: Banks> MldClone<B> {
         &self,
         alloc: Global,
         base: Clock,
-        pairs: Vec<Tagged>,
+        pairs: PairList,
     ) -> Result<Head, AllocError>
-        ensures { IfOk result (λ head. head_value head ≡ head_over self.now.local base.ticks pairs.items) }
+        ensures { IfOk result (λ head. head_value head ≡ head_over self.now.local base.ticks pairs) }
     {
         Ok(Head {
             id: self.id,

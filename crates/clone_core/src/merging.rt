@@ -35,7 +35,8 @@ impl<B: Banks> MldClone<B> {
             ↔ (IsSpent (IsDueSnapshot self.old.local (snapshot_value snapshot.now)) self.old
             × ¬ IsErrOf result ReceiveFault.NoMemory) }
         ensures left { IfErr result
-            (StopsReceiving B.log B.meter (IsDueSwap (IsDueSnapshot self.old.local (snapshot_value snapshot.now)) self.old)
+            (StopsReceiving B.log B.meter
+            (IsDueSwap (IsDueSnapshot self.old.local (snapshot_value snapshot.now)) self.old.generation)
             (Unit {0}) self.old self.new) }
         ensures durable { (steps : List KeptStep)
             × MessageSteps self.old.local (kinds.Snapshot snapshot.now) self.new.local result steps
@@ -61,14 +62,15 @@ impl<B: Banks> MldClone<B> {
     fn merge(&mut self, alloc: Global, snapshot: &Snapshot) -> Result<Got, ReceiveFault>
         requires opened { self.old.closed ≡ None }
         requires good { IsGoodSnapshot (snapshot_value snapshot.now) }
-        requires due { IsDueSwap (IsDueSnapshot self.old.local (snapshot_value snapshot.now)) self.old }
+        requires due { IsDueSwap (IsDueSnapshot self.old.local (snapshot_value snapshot.now)) self.old.generation }
         ensures ok { IfOk result (λ got.
             ReceivesSnapshot self.old.local (snapshot_value snapshot.now) got self.new.local) }
         ensures good { IfOk result AnswersGood }
         ensures opened { IfOk result (StaysOpenBy self.old self.new) }
         ensures unspent { ¬ IsErrOf result ReceiveFault.GenerationsSpent }
         ensures left { IfErr result (λ fault.
-            StopsClone B.log B.meter (IsDueSwap (IsDueSnapshot self.old.local (snapshot_value snapshot.now)) self.old)
+            StopsClone B.log B.meter
+            (IsDueSwap (IsDueSnapshot self.old.local (snapshot_value snapshot.now)) self.old.generation)
             (Unit {0}) self.old self.new (receive_stop fault)) }
         ensures durable { (steps : List KeptStep)
             × MessageSteps self.old.local (kinds.Snapshot snapshot.now) self.new.local result steps

@@ -32,8 +32,8 @@ impl<B: Banks> MldClone<B> {
         ensures spent { IsErrOf result KeepFault.GenerationsSpent
             ↔ (IsSpent (keep < length self.old.local.entries) self.old × ¬ IsErrOf result KeepFault.NoMemory) }
         ensures left { IfErr result (λ fault.
-            LeavesClone B.log B.meter (IsDueSwap (keep < length self.old.local.entries) self.old) ⊥ self.old self.new
-            (keep_stop fault)) }
+            LeavesClone B.log B.meter (IsDueSwap (keep < length self.old.local.entries) self.old.generation) ⊥
+            self.old self.new (keep_stop fault)) }
         ensures durable { (steps : List KeptStep)
             × KeepSteps (keep < length self.old.local.entries)
             (LocallyTruncates self.old.local keep) self.new.local result steps
@@ -56,12 +56,12 @@ impl<B: Banks> MldClone<B> {
     // The same as `swap_truncated`, and before it lets texts go that no pair has any more.
     fn renew_and_swap(&mut self, alloc: Global, keep: usize) -> Result<(), KeepFault>
         requires opened { self.old.closed ≡ None }
-        requires due { IsDueSwap (keep < length self.old.local.entries) self.old }
+        requires due { IsDueSwap (keep < length self.old.local.entries) self.old.generation }
         ensures ok { OnOk result (LocallyTruncates self.old.local keep self.new.local) }
         ensures opened { OnOk result (IsSwappedOpen self.old self.new) }
         ensures left { IfErr result (λ fault.
-            StopsClone B.log B.meter (IsDueSwap (keep < length self.old.local.entries) self.old) ⊥ self.old self.new
-            (keep_stop fault)) }
+            StopsClone B.log B.meter (IsDueSwap (keep < length self.old.local.entries) self.old.generation) ⊥
+            self.old self.new (keep_stop fault)) }
         ensures durable { (steps : List KeptStep)
             × KeepSteps (keep < length self.old.local.entries)
             (LocallyTruncates self.old.local keep) self.new.local result steps
@@ -82,12 +82,12 @@ impl<B: Banks> MldClone<B> {
     // Swaps what the banks keep for a journal of the last entries, of which there are more, over what the others led to.
     fn swap_truncated(&mut self, alloc: Global, keep: usize) -> Result<(), KeepFault>
         requires opened { self.old.closed ≡ None }
-        requires due { IsDueSwap (keep < length self.old.local.entries) self.old }
+        requires due { IsDueSwap (keep < length self.old.local.entries) self.old.generation }
         ensures ok { OnOk result (LocallyTruncates self.old.local keep self.new.local) }
         ensures opened { OnOk result (IsSwappedOpen self.old self.new) }
         ensures left { IfErr result (λ fault.
-            StopsClone B.log B.meter (IsDueSwap (keep < length self.old.local.entries) self.old) ⊥ self.old self.new
-            (keep_stop fault)) }
+            StopsClone B.log B.meter (IsDueSwap (keep < length self.old.local.entries) self.old.generation) ⊥
+            self.old self.new (keep_stop fault)) }
         ensures durable { (steps : List KeptStep)
             × KeepSteps (keep < length self.old.local.entries)
             (LocallyTruncates self.old.local keep) self.new.local result steps

@@ -8,7 +8,7 @@ use clone_core::Adopted;
 use disk_model::MemoryBanks;
 use journal_store::MakeFault;
 use mld_io::Leave;
-use mld_ops::{Give, Message, Snapshot};
+use mld_ops::{Give, Given, Message, PairList, Snapshot};
 use std::alloc::Global;
 use std::test::Fail;
 use std::thread::Threads;
@@ -34,10 +34,11 @@ fn given(alloc: Global) -> Result<Box<Message>, Fail>
         path,
         snapshot: Snapshot {
             clock: clock(alloc, &path, 4_294_967_294)?,
-            tagged: Vec::new(alloc),
+            tagged: PairList::new(alloc),
         },
     };
-    Ok(Box::new(alloc, Message::JoinGive(give))?)
+    let given = Given::new(alloc, give)?;
+    Ok(Box::new(alloc, Message::JoinGive(given))?)
 }
 
 /// What one who asks becomes by a message.

@@ -8,7 +8,7 @@ ghost use Rattle.journal_sides.specs.StoredVolumes.{IsGoodHead};
 use crate::made::domain;
 use causal_buffer::is_ready;
 use journal_store::Head;
-use mld_ops::Entry;
+use mld_ops::{Entry, PairList};
 use op_codec::{is_short_entry, read_entry};
 use std::alloc::Global;
 use std::test::Fail;
@@ -36,7 +36,7 @@ pub fn first_head(alloc: Global) -> Result<Box<Head>, Fail>
         props: Vec::new(alloc),
         path: Path::root(),
         base: Clock::empty(alloc),
-        tagged: Vec::new(alloc),
+        tagged: PairList::new(alloc),
     };
     Ok(Box::new(alloc, head)?)
 }

@@ -3,7 +3,7 @@ ghost use Rattle.std.specs.Prelude.{IfOk};
 ghost use Rattle.mld_ops.specs.Messages.{message_value, snapshot_value, IsGoodMessage, IsGoodSnapshot};
 
 use crate::faults::{Fault, Tried};
-use mld_ops::{Entry, Give, Message, Snapshot, Tagged};
+use mld_ops::{Entry, Give, Given, Message, PairList, Snapshot, Tagged};
 use rdf_terms::{Triple, read_triple};
 use std::alloc::{AllocError, Global};
 use std::fmt::Display;
@@ -76,8 +76,9 @@ fn snapshot_of(alloc: Global, path: Path, tick: u32) -> Tried<Snapshot>
         return Err(Fault::Amiss);
     }
     let triple = triple_of(alloc, &tick)?;
-    let mut tagged = Vec::new(alloc);
-    tagged.push(Tagged { triple, dot })?;
+    let mut list = Vec::new(alloc);
+    list.push(Tagged { triple, dot })?;
+    let tagged = PairList::from_list(alloc, &clock, list)?;
     Ok(Snapshot { clock, tagged })
 }
 
@@ -98,5 +99,6 @@ pub fn leaf(alloc: Global, tick: u32) -> Tried<Box<Message>>
         path: right(),
         snapshot: snapshot_of(alloc, Path::root().child(false), tick)?,
     };
-    Ok(Box::new(alloc, Message::JoinGive(give))?)
+    let given = Given::new(alloc, give)?;
+    Ok(Box::new(alloc, Message::JoinGive(given))?)
 }

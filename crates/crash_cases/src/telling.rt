@@ -1,6 +1,6 @@
 //! What a clone has, as a text: its path, what it knows, its base, the ranges of its journal, and its pairs.
 use crate::steps::TestClone;
-use mld_ops::{Entry, Tagged};
+use mld_ops::{Entry, PairList, PairRef};
 use rdf_terms::write_triple;
 use std::alloc::{AllocError, Global};
 use std::fmt::{Display, Write};
@@ -60,8 +60,8 @@ pub fn put_clone(told: &mut Told, clone: &TestClone) {
 /// Puts the pairs that a clone has.
 fn put_tagged(told: &mut Told, clone: &TestClone) {
     told.push_str("; has");
-    match clone.tagged(told.alloc) {
-        Ok(tagged) => put_pairs(told, tagged.as_slice()),
+    match clone.pairs().to_pairs(told.alloc) {
+        Ok(pairs) => put_pairs(told, &pairs),
         Err(_) => told.is_whole = false,
     }
 }
@@ -95,16 +95,18 @@ fn put_journal(told: &mut Told, entries: &[Entry]) {
 }
 
 /// Puts pairs.
-fn put_pairs(told: &mut Told, pairs: &[Tagged]) {
-    for pair in pairs {
-        put_pair(told, pair);
+fn put_pairs(told: &mut Told, pairs: &PairList) {
+    for place in 0..pairs.len() {
+        if let Some(pair) = pairs.get(place) {
+            put_pair(told, &pair);
+        }
     }
 }
 
 /// Puts a pair.
-fn put_pair(told: &mut Told, pair: &Tagged) {
+fn put_pair(told: &mut Told, pair: &PairRef<'_>) {
     let mut bytes = Vec::new(told.alloc);
-    told.is_whole &= write_triple(&mut bytes, &pair.triple).is_ok();
+    told.is_whole &= write_triple(&mut bytes, pair.triple).is_ok();
     told.push_str(" ");
     told.push_printed(&pair.dot);
     told.push_str(" ");

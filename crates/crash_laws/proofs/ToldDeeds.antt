@@ -25,10 +25,10 @@ use Rattle.clone_core.specs.clone_parts.declared.answers.Done.TheVariants as don
 use Rattle.clone_core.specs.clone_parts.KeptSteps.{KeptStep, Created, Appended, Forked, Swapped, appends}
 use Rattle.clone_core.specs.Banked.{BankedClone, head_of, kept_as}
 use Rattle.clone_core.specs.CloneUpdates.{LocallyUpdatesBy}
-use Rattle.clone_core.specs.Due.{IsDueMessage}
+use Rattle.clone_core.specs.Due.{HasToMake, IsDueMessage}
 use Rattle.clone_core.specs.Joining.{IsGiveFor}
 use Rattle.clone_core.specs.DurableCalls.{AppendsPlanned, WouldReceive, SwapsTo, merged_steps}
-use Rattle.crash_laws.specs.Deeds.{CarriedDeed, HasLeafToGive}
+use Rattle.crash_laws.specs.Deeds.{CarriedDeed}
 use Rattle.crash_laws.proofs.KeepingDeeds.{compacted_deed, truncated_deed}
 use Rattle.crash_laws.proofs.OwnDeeds.{update_deed}
 use Rattle.crash_laws.proofs.Kept.{carried_at}
@@ -64,7 +64,7 @@ module _ (world : World) (number : ℕ) (old : LocalClone) (sound : IsSound worl
 
   -- what would have been received
   pub received_deed : (told : Told) (place : ℕ) (sent : Message) (steps : List KeptStep) → message_at world place ≡ Some sent → IsSentAs world (message_value told) sent
-      → HasLeafToGive old told → WouldReceive old told steps → CarriedDeed world (Deliver place number) number (Keeps (kept_as side generation old)) steps
+      → HasToMake old told → WouldReceive old told steps → CarriedDeed world (Deliver place number) number (Keeps (kept_as side generation old)) steps
   received_deed (message.Range entry) place sent steps is s may would =
       named_as (Deliver place number) steps (appends would.3.0) would.3.2
       (taken_deed world number place sound side generation old would.0 entry would.1 would.3.0 at sent is s would.2 would.3.1)
@@ -90,13 +90,13 @@ module _ (world : World) (number : ℕ) (old : LocalClone) (sound : IsSound worl
   truncates_deed keep next steps due truncates is =
       named_as (Truncate number keep) steps (Swapped (head_of next) next.entries ∷ []) is (truncated_deed world number old sound at keep next truncates due side generation)
 
--- what is due by a message is enough
-pub may_give : {B : Type 0} (clone : BankedClone B) (told : Told) → IsDueMessage clone told → HasLeafToGive clone.local told
-may_give clone (message.JoinAsk id) due = due
-may_give clone (message.Range entry) due = tt
-may_give clone (message.Snapshot snapshot) due = tt
-may_give clone (message.Want clock) due = absurd due
-may_give clone (message.JoinGive give) due = absurd due
+-- what is due by a message a clone has to make, whatever its generation is
+pub has_to_make : {B : Type 0} (clone : BankedClone B) (told : Told) → IsDueMessage clone told → HasToMake clone.local told
+has_to_make clone (message.Range entry) due = due
+has_to_make clone (message.JoinAsk id) due = due
+has_to_make clone (message.Snapshot snapshot) due = due.due
+has_to_make clone (message.Want clock) due = absurd due
+has_to_make clone (message.JoinGive give) due = absurd due
 
 -- one who asks would have been given a leaf, or was
 pub adopts_deed : (world : World) (number place : ℕ) (asker : LocalAsker) (told : Told) (give : Give) (sent : Message) → IsSound world → AskingAt world number asker

@@ -38,11 +38,12 @@ use Rattle.clone_core.specs.clone_parts.KeptSteps.{KeptStep, Created, calls_of_a
 use Rattle.clone_core.specs.Banked.{head_of, kept_as}
 use Rattle.clone_core.specs.CloneCalls.{LocallyReceives, Refuses}
 use Rattle.clone_core.specs.CloneUpdates.{LocallyUpdatesBy, BreaksSingle}
+use Rattle.clone_core.specs.Due.{HasToMake}
 use Rattle.clone_core.specs.DurableCalls.{AppendsPlanned, UpdateSteps, WouldReceive, ReceivedSteps, SwapsTo}
 use Rattle.clone_core.specs.Joining.{IsGiveFor}
 use Rattle.crash_laws.specs.CarriedSteps.{Owner, owner_at, StandsRead, Carries, StandsSome, StandsCaught, IsUpTo, WritesOnce}
 use Rattle.crash_laws.specs.CrashLines.{ImageStands, CrashesTo, FollowsCrash}
-use Rattle.crash_laws.specs.Deeds.{CarriedDeed, CarriesDone, HasLeafToGive, TellsOfNone, TakesNoMessage}
+use Rattle.crash_laws.specs.Deeds.{CarriedDeed, CarriesDone, TellsOfNone, TakesNoMessage}
 
 -- ---- fronts
 
@@ -75,11 +76,11 @@ PlannedDeeds = (world : World) (number : ℕ) (old : LocalClone) → IsSound wor
     (command : Command) (plan : UpdatePlan) (steps : List KeptStep) → IsUpdateOf command number plan → AppendsPlanned old plan steps
     → CarriedDeed world command number (Keeps (kept_as side generation old)) steps
 
--- a message that it would have received: a range with those that it releases, a leaf that is forked, a snapshot with what it releases
+-- a message by which it had something to make, and would have received: a range with those that it releases, a leaf that is forked, a snapshot with what it releases
 abbrev pub ReceivedDeeds : Type 0
 ReceivedDeeds = (world : World) (number : ℕ) (old : LocalClone) → IsSound world → LiveAt world number old → (side : Side) (generation : ℕ)
     (told : Told) (place : ℕ) (sent : Message) (steps : List KeptStep) → message_at world place ≡ Some sent → IsSentAs world (message_value told) sent
-    → HasLeafToGive old told → WouldReceive old told steps → CarriedDeed world (Deliver place number) number (Keeps (kept_as side generation old)) steps
+    → HasToMake old told → WouldReceive old told steps → CarriedDeed world (Deliver place number) number (Keeps (kept_as side generation old)) steps
 
 -- a journal that would have been compacted, and one that would have been truncated
 abbrev pub CompactionDeeds : Type 0

@@ -1,10 +1,6 @@
 -- What a plain command does in the model, beside the changes that its clone would make of its banks.
 use Rattle.std.specs.Prelude.{ℕ, List}
 use Rattle.clone_core.specs.journal_sides.Pairs.{PairReading}
-use Rattle.mld_ops.specs.declared.messages.Message.{Message}
-use Rattle.mld_ops.specs.declared.messages.Message.TheVariants as message
-use Rattle.mld_model.specs.Local.{LocalClone}
-use Rattle.clone_core.specs.Due.{IsDueAsk}
 use Rattle.mld_model.specs.Clone.{kept_of}
 use Rattle.mld_model.specs.Durable.{DurableStep}
 use Rattle.mld_model.specs.Reply.{Reply, Did, Took, Merged, Answer, Joined}
@@ -29,11 +25,6 @@ pub record CarriesDone (world : World) (command : Command) (number : ℕ) (readi
   pub are : PlainDurableSteps world command reply next durable
   pub carries : Carries (owner_at world number) world.history reading (kept_of (clone_at world number)) steps durable
   pub once : WritesOnce steps
-
--- where a message asks for a leaf, the clone has one to give
-abbrev pub HasLeafToGive : LocalClone → Message → Type 0
-HasLeafToGive old (message.JoinAsk id) = IsDueAsk old id
-HasLeafToGive old other = Unit {0}
 
 -- the reply tells of nothing that a clone came to keep
 abbrev pub TellsOfNone : Reply → Type 0

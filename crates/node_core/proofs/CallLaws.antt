@@ -43,7 +43,7 @@ use Rattle.node_core.specs.declared.states.NodeState.{NodeState}
 use Rattle.node_core.specs.declared.states.NodeState.TheVariants as states
 use Rattle.node_core.specs.NodeStates.{state_banks, state_banks_after, StateFailsOnDevice}
 use Rattle.node_core.specs.LoanCalls.{GoesBy, GreetsClient, Replies, AppendsBehind, told_by, MayAnswer, MayBeSent, CarryTaken, HasSent}
-use Rattle.node_core.specs.NodeDeeds.{NodeDoesBy, ReceivesOn, HasToMake, IsDueOfLive, IsDueByMessage}
+use Rattle.node_core.specs.NodeDeeds.{NodeDoesBy, ReceivesOn, IsDueOfLive, IsDueByMessage}
 use Rattle.node_model.proofs.of_shell_session.Moments.{same_front, fronts, made_front}
 use Rattle.node_core.proofs.Moments.{kept_images}
 use Rattle.node_core.proofs.CommandLaws.{carried_appends, carried_behind, none_lost, command_due, command_carried, command_behind, text_has_byte}
@@ -226,38 +226,23 @@ module _ {B : Type 0} (log : B → Option Log) (meter : B → Meter) (old new : 
   SpentBy sent result = IsErrOf result fault.GenerationsSpent ↔ (IsMessageSpent old sent × ¬ IsErrOf result fault.NoMemory)
 
   -- a generation was left for a merge
-  left_for : (sent : Message) (answer : Got) → old.closed ≡ None → LocallyReceives old.local sent answer new.local → SpentBy sent (Ok answer)
-      → HasGenerationFor answer old.generation
-  left_for (kind.Range entry) (got.Merged ranges) is_open received spent = absurd received.1
-  left_for (kind.JoinAsk id) (got.Merged ranges) is_open received spent = absurd received
-  left_for (kind.Want clock) (got.Merged ranges) is_open received spent = absurd received
-  left_for (kind.Snapshot snapshot) (got.Merged ranges) is_open received spent = λ last.
-      let refused = spent.1 (record { opened = is_open; due = record { own = received.0; lacks = received.1.lacks }; last = last }, λ same. absurd (cc (same))) in
-      absurd (cc (refused))
-  left_for (kind.JoinGive give) (got.Merged ranges) is_open received spent = absurd (cc (received.0))
-  left_for sent answer is_open received spent = tt
+  left_for : (answer : Got) → StaysOpenBy old new answer → HasGenerationFor answer old.generation
+  left_for (got.Merged ranges) stays = stays.left
+  left_for answer stays = tt
 
   -- what was made was due
-  made_due : (sent : Message) (answer : Got) (steps : List KeptStep) → old.closed ≡ None → LocallyReceives old.local sent answer new.local
-      → ReceivedSteps sent answer old.local new.local steps → SpentBy sent (Ok answer) → (steps ≡ []) ⊎ IsDueOfLive old.generation old.local sent steps
-  made_due (kind.Range entry) (got.Took ranges) steps is_open received made spent =
+  made_due : (sent : Message) (answer : Got) (steps : List KeptStep) → LocallyReceives old.local sent answer new.local
+      → ReceivedSteps sent answer old.local new.local steps → StaysOpenBy old new answer → (steps ≡ []) ⊎ IsDueOfLive old.generation old.local sent steps
+  made_due (kind.Range entry) (got.Took ranges) steps received made stays =
       inr (record { has = record { own = received.0; ready = received.1.ready }; would = (new.local, ranges, received.1, made) })
-  made_due (kind.JoinAsk id) (got.Answer messages) steps is_open received made spent =
+  made_due (kind.JoinAsk id) (got.Answer messages) steps received made stays =
       inr (record { has = record { other = received.0; room = received.1.2.room }; would = made })
-  made_due (kind.Snapshot snapshot) (got.Merged ranges) steps is_open received made spent =
+  made_due (kind.Snapshot snapshot) (got.Merged ranges) steps received made stays =
       inr (record {
-        has = (record { own = received.0; lacks = received.1.lacks }, left_for (kind.Snapshot snapshot) (got.Merged ranges) is_open received spent);
+        has = record { due = record { own = received.0; lacks = received.1.lacks }; left = stays.left };
         would = (new.local, ranges, received.1, made);
       })
-  made_due sent answer steps is_open received made spent = inl made
-
-  -- and what the banks had to do
-  has_to : (sent : Message) → IsDueMessage old sent → HasToMake old.generation old.local sent
-  has_to (kind.Range entry) due = due
-  has_to (kind.JoinAsk id) due = due
-  has_to (kind.Snapshot snapshot) due = (due.due, due.left)
-  has_to (kind.Want clock) due = absurd due
-  has_to (kind.JoinGive give) due = absurd due
+  made_due sent answer steps received made stays = inl made
 
   -- no generation was left
   spent_last : (sent : Message) → IsMessageSpent old sent → IsLast old.generation
@@ -335,7 +320,7 @@ module _ {B : Type 0} (log : B → Option Log) (meter : B → Meter) (old new : 
             does = record {
               result = Ok answer;
               new = new.local;
-              received = (received, durable.1, left_for sent answer is_open received spent);
+              received = (received, durable.1, left_for answer stays);
               becomes = ap (λ (n : ℕ). Lives n new.local) so.counts;
               sends = has_sent durable.0 so.carry;
             };
@@ -367,22 +352,22 @@ module _ {B : Type 0} (log : B → Option Log) (meter : B → Meter) (old new : 
     memory_stops steps (inr shuts) would moments = record {
       steps = steps;
       due = due_so log meter old (WouldReceive old.local sent) (IsDueByMessage (Lives old.generation old.local) sent)
-          (λ made would_make. record { has = has_to sent shuts.due; would = would_make }) steps would;
+          (λ made would_make. record { has = shuts.due; would = would_make }) steps would;
       moments = moments;
     }
 
-    pub receive_stops : (result : Result Got ReceiveFault) → old.closed ≡ None → Received result → Spent result → Left result → Durable result
+    pub receive_stops : (result : Result Got ReceiveFault) → Received result → Stays result → Left result → Durable result
         → CloneLeavesFrontOfDue log meter (IsDueByMessage (Lives old.generation old.local) sent) old new.banks
-    receive_stops (Ok answer) is_open received spent left durable =
-        record { steps = durable.0; due = made_due sent answer durable.0 is_open received durable.1 spent; moments = durable.2.moments }
-    receive_stops (Err (fault.ForeignTick said own)) is_open received spent left durable = left_stops (IsDueByMessage (Lives old.generation old.local) sent) left
-    receive_stops (Err fault.HeldFull) is_open received spent left durable = left_stops (IsDueByMessage (Lives old.generation old.local) sent) left
-    receive_stops (Err fault.Deep) is_open received spent left durable = left_stops (IsDueByMessage (Lives old.generation old.local) sent) left
-    receive_stops (Err fault.GenerationsSpent) is_open received spent left durable = left_stops (IsDueByMessage (Lives old.generation old.local) sent) left
-    receive_stops (Err (fault.Closed why)) is_open received spent left durable = left_stops (IsDueByMessage (Lives old.generation old.local) sent) left
-    receive_stops (Err fault.Device) is_open received spent left durable =
-        record { steps = durable.0; due = inr (record { has = has_to sent left.due; would = durable.1 }); moments = durable.2.moments }
-    receive_stops (Err fault.NoMemory) is_open received spent left durable = memory_stops durable.0 left durable.1 durable.2.moments
+    receive_stops (Ok answer) received stays left durable =
+        record { steps = durable.0; due = made_due sent answer durable.0 received durable.1 stays; moments = durable.2.moments }
+    receive_stops (Err (fault.ForeignTick said own)) received stays left durable = left_stops (IsDueByMessage (Lives old.generation old.local) sent) left
+    receive_stops (Err fault.HeldFull) received stays left durable = left_stops (IsDueByMessage (Lives old.generation old.local) sent) left
+    receive_stops (Err fault.Deep) received stays left durable = left_stops (IsDueByMessage (Lives old.generation old.local) sent) left
+    receive_stops (Err fault.GenerationsSpent) received stays left durable = left_stops (IsDueByMessage (Lives old.generation old.local) sent) left
+    receive_stops (Err (fault.Closed why)) received stays left durable = left_stops (IsDueByMessage (Lives old.generation old.local) sent) left
+    receive_stops (Err fault.Device) received stays left durable =
+        record { steps = durable.0; due = inr (record { has = left.due; would = durable.1 }); moments = durable.2.moments }
+    receive_stops (Err fault.NoMemory) received stays left durable = memory_stops durable.0 left durable.1 durable.2.moments
 
 -- ---- messages to one who asks
 

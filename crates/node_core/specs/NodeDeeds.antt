@@ -3,15 +3,13 @@ use Rattle.std.specs.Prelude.{◌≡◌, ℕ, List, [], ◌∷◌, Option}
 use Rattle.mld_io.specs.Disk.{Log}
 use Rattle.mld_ops.specs.declared.messages.Give.{Give}
 use Rattle.mld_ops.specs.declared.messages.Message.{Message}
-use Rattle.mld_ops.specs.declared.messages.Message.TheVariants as kind
-use Rattle.mld_ops.specs.Messages.{snapshot_value}
 use Rattle.mld_model.specs.Local.{LocalClone}
 use Rattle.node_model.specs.clone_parts.KeptSteps.{KeptStep, Created}
 use Rattle.node_model.specs.clone_core.Banked.{head_of}
-use Rattle.node_model.specs.clone_core.Due.{IsDueEntry, IsDueAsk, IsDueSnapshot}
+use Rattle.node_model.specs.clone_core.Due.{IsDueAt}
 use Rattle.node_model.specs.clone_core.DurableCalls.{WouldReceive}
 use Rattle.node_model.specs.clone_core.Joining.{IsGiveFor}
-use Rattle.node_model.specs.shell_session.ShellStep.{IsDueLive, IsLast}
+use Rattle.node_model.specs.shell_session.ShellStep.{IsDueLive}
 use Rattle.node_model.specs.shell_session.SessionLines.{ImagesFind, LeavesFront, LeavesFrontOfDue}
 use Rattle.node_model.specs.declared.requests.Request.{Request}
 use Rattle.node_model.specs.declared.requests.Request.TheVariants.{Command}
@@ -52,18 +50,9 @@ IsDueByCommand keeper request steps = ⊥
 abbrev pub IsDueByRequest : Keeper → List ℕ → List KeptStep → Type 0
 IsDueByRequest keeper line steps = (request : Request) × SpellsRequest (keeper_domain keeper) line request × IsDueByCommand keeper request steps
 
--- A live clone, of this generation, has something to make for a message: it takes a range that is ready; it forks its leaf for one of another id, where
--- its path has room for a letter more; or it merges a snapshot that has what it lacks, where a generation is left for the swap.
-abbrev pub HasToMake : ℕ → LocalClone → Message → Type 0
-HasToMake generation clone (kind.Range entry) = IsDueEntry clone entry
-HasToMake generation clone (kind.JoinAsk id) = IsDueAsk clone id
-HasToMake generation clone (kind.Snapshot snapshot) = IsDueSnapshot clone (snapshot_value snapshot) × ¬ IsLast generation
-HasToMake generation clone (kind.Want clock) = ⊥
-HasToMake generation clone (kind.JoinGive give) = ⊥
-
--- and it is this
+-- what a live clone of this generation has to make for a message
 pub record IsDueOfLive (generation : ℕ) (clone : LocalClone) (message : Message) (steps : List KeptStep) : Type 0 where
-  pub has : HasToMake generation clone message
+  pub has : IsDueAt generation clone message
   pub would : WouldReceive clone message steps
 
 -- those that a message has to make

@@ -1,11 +1,15 @@
 -- The text of a clone's pairs, and words behind an output.
-use Rattle.std.proofs.Common.{◌≡◌, ◌∙◌, sym, arith, zero, suc, ◌+◌, append-nil, ℕ, ◌≤◌, List, [], ◌∷◌, ◌++◌, codes, length, take, ap, if◌then◌else◌, Result, Ok, Err, OnOk, OnErr, is_ok, subst}
+use Rattle.std.proofs.Common.{◌≡◌, ◌∙◌, ◌<◌, refl, Option, Some, sym, arith, zero, suc, ◌+◌, append-nil, ℕ, ◌≤◌, List, [], ◌∷◌, ◌++◌, codes, length, take, ap, if◌then◌else◌, Result, Ok, Err, OnOk, OnErr, is_ok, subst}
 use Rattle.std.specs.Fmt.{decimal}
-use Rattle.std.specs.List.{flat_map, range_with_len}
+use Rattle.std.specs.List.{flat_map, range_with_len, slice_get}
+use Rattle.std.specs.Option.{option_map, option_to_list}
+use Rattle.std.proofs.lemmas.Grind.{flat_map-append}
 use Rattle.std.proofs.lemmas.List.{append_assoc, take_all}
 use Rattle.rdf_terms.specs.Kept.{KeepsStart}
 use Rattle.rdf_terms.proofs.Appending.{keeps_further}
 use Rattle.tree_clock.specs.declared.dots.Range.{Range}
+use Rattle.mld_ops.specs.PairLists.{pair_lent}
+use Rattle.mld_ops.specs.declared.pair_lists.PairRef.{PairRef}
 use Rattle.mld_ops.specs.declared.tagged.Tagged.{Tagged}
 use Rattle.schedule_model.specs.Characters.{line_end}
 use Rattle.schedule_model.specs.ReplyText.{reply_text, pair_line, spaced_range, spaced_message}
@@ -22,6 +26,29 @@ pairs_shown old mid out head pairs m h o =
     o ∙ ap (λ w. w ++ lines) (m ∙ ap (λ w. old ++ w) h)
     ∙ append_assoc old first lines
     ∙ ap (λ w. old ++ w) (append_assoc (codes "has ") (decimal (length pairs) ++ line_end ∷ []) lines ∙ ap (λ w. codes "has " ++ w) (append_assoc (decimal (length pairs)) (line_end ∷ []) lines))
+
+-- one pair more
+pub lines_more : (old out new : List ℕ) (pairs : List Tagged) (place : ℕ) → place < length pairs
+    → out ≡ old ++ flat_map pair_line (take place pairs) → new ≡ out ++ flat_map pair_line (option_to_list (slice_get pairs place))
+    → new ≡ old ++ flat_map pair_line (take (place + 1) pairs)
+lines_more old out new pairs place within o n =
+    n ∙ ap (λ w. w ++ flat_map pair_line (option_to_list (slice_get pairs place))) o
+    ∙ append_assoc old (flat_map pair_line (take place pairs)) (flat_map pair_line (option_to_list (slice_get pairs place)))
+    ∙ ap (λ w. old ++ w) (sym (flat_map-append pair_line (take place pairs) (option_to_list (slice_get pairs place))))
+    ∙ ap (λ (ps : List Tagged). old ++ flat_map pair_line ps) (sym (one_more pairs place within))
+  where
+    one_more : (pairs : List Tagged) (place : ℕ) → place < length pairs → take (place + 1) pairs ≡ take place pairs ++ option_to_list (slice_get pairs place)
+    one_more [] place within = absurd (omega (arith, within))
+    one_more (pair ∷ pairs) zero within = refl
+    one_more (pair ∷ pairs) (suc place) within =
+        let e : suc place + 1 ≡ suc (place + 1) = omega arith in rw e (ap (λ (ps : List Tagged). pair ∷ ps) (one_more pairs place (omega (arith, within))))
+
+-- the line of a pair that is lent
+pub line_shown : (old new : List ℕ) (found : Option PairRef) (at : Option Tagged) (lent : PairRef) → found ≡ Some lent → option_map pair_lent found ≡ at
+    → new ≡ old ++ pair_line (pair_lent lent) → new ≡ old ++ flat_map pair_line (option_to_list at)
+line_shown old new found at lent is same pushed =
+    let there : at ≡ Some (pair_lent lent) = sym same ∙ ap (λ (o : Option PairRef). option_map pair_lent o) is in
+    rw there (pushed ∙ ap (λ w. old ++ w) (sym (append-nil (pair_line (pair_lent lent)))))
 
 -- a word, each range behind a space, and the end of the line, in three steps
 pub ranges_shown : (old mid out new word : List ℕ) (ranges : List Range) (i : ℕ) → length ranges ≤ i

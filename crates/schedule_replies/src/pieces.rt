@@ -18,8 +18,16 @@ pub fn push_numbered(out: &mut Vec<u8>, word: &[u8], number: u64) -> Result<(), 
     ensures ok { OnOk result (out.new.items ≡ out.old.items ++ (word.now ++ decimal number)) }
     ensures err { OnErr result (KeepsStart out.old.items out.new.items) }
 {
-    let mut digits = Buffer::new();
     out.extend_from_slice(word)?;
+    push_decimal(out, number)
+}
+
+/// A number.
+fn push_decimal(out: &mut Vec<u8>, number: u64) -> Result<(), AllocError>
+    ensures ok { OnOk result (out.new.items ≡ out.old.items ++ decimal number) }
+    ensures err { OnErr result (out.new.items ≡ out.old.items) }
+{
+    let mut digits = Buffer::new();
     out.extend_from_slice(digits.format(number).as_bytes())
 }
 
@@ -29,7 +37,7 @@ pub fn push_count(out: &mut Vec<u8>, word: &[u8], number: u64) -> Result<(), All
     ensures err { OnErr result (KeepsStart out.old.items out.new.items) }
 {
     push_numbered(out, word, number)?;
-    out.extend_from_slice(b"\n")
+    Ok(out.push(b'\n')?)
 }
 
 /// A path: `r` and its letters.
@@ -37,7 +45,7 @@ pub fn push_path(out: &mut Vec<u8>, path: &Path) -> Result<(), AllocError>
     ensures ok { OnOk result (out.new.items ≡ out.old.items ++ path_text path.now) }
     ensures err { OnErr result (KeepsStart out.old.items out.new.items) }
 {
-    out.extend_from_slice(b"r")?;
+    out.push(b'r')?;
     for place in 0..path.len() {
         push_letter(out, path.letter(place))?;
     }
@@ -49,7 +57,7 @@ fn push_letter(out: &mut Vec<u8>, one: bool) -> Result<(), AllocError>
     ensures ok { OnOk result (out.new.items ≡ out.old.items ++ (if one then one_letter else zero_letter) ∷ []) }
     ensures err { OnErr result (out.new.items ≡ out.old.items) }
 {
-    out.extend_from_slice(if one { b"1" } else { b"0" })
+    Ok(out.push(if one { b'1' } else { b'0' })?)
 }
 
 /// A dot: its path and its tick.
@@ -58,7 +66,8 @@ pub fn push_dot(out: &mut Vec<u8>, dot: &Dot) -> Result<(), AllocError>
     ensures err { OnErr result (KeepsStart out.old.items out.new.items) }
 {
     push_path(out, &dot.path)?;
-    push_numbered(out, b".", u64::from(dot.tick))
+    out.push(b'.')?;
+    push_decimal(out, u64::from(dot.tick))
 }
 
 /// A range, behind a space: its path and its ticks.
@@ -66,7 +75,7 @@ pub fn push_range(out: &mut Vec<u8>, range: &Range) -> Result<(), AllocError>
     ensures ok { OnOk result (out.new.items ≡ out.old.items ++ spaced_range range.now) }
     ensures err { OnErr result (KeepsStart out.old.items out.new.items) }
 {
-    out.extend_from_slice(b" ")?;
+    out.push(b' ')?;
     push_path(out, &range.path)?;
     push_numbered(out, b".", u64::from(range.first))?;
     push_numbered(out, b"-", u64::from(range.last))

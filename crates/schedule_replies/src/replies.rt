@@ -1,6 +1,7 @@
 //! Replies, and their text: lines that end with LF, added at the end of an output.
-ghost use Rattle.std.specs.Prelude.{◌≡◌, ◌++◌, ◌∷◌, [], map, OnOk, OnErr};
-ghost use Rattle.std.specs.List.{flat_map};
+ghost use Rattle.std.specs.Prelude.{◌≡◌, ◌++◌, ◌∷◌, [], OnOk, OnErr};
+ghost use Rattle.std.specs.List.{flat_map, slice_get};
+ghost use Rattle.std.specs.Option.{option_to_list};
 ghost use Rattle.rdf_terms.specs.Kept.{KeepsStart};
 ghost use Rattle.mld_model.specs.Reply.{Ready, PropertySet, Did, Single, Answer, Joined, Shows, ThenCrashed};
 ghost use Rattle.schedule_model.specs.Characters.{line_end};
@@ -8,11 +9,16 @@ ghost use Rattle.schedule_model.specs.ReplyText.{reply_text, pair_line, spaced_r
 ghost use Rattle.schedule_replies.specs.Replies.{reply_value, numbers_between};
 
 use crate::pieces::{push_count, push_dot, push_numbered, push_path, push_range};
-use graph_index::Graph;
-use mld_ops::Tagged;
-use rdf_terms::{Iri, write_triple};
+use graph_index::{Graph, LentPairs};
+use rdf_terms::{Iri, Term, Triple, write_triple};
 use std::alloc::AllocError;
 use tree_clock::{Dot, Path, Range, Ranges};
+
+/// Room for the lines of so many pairs is made at once.
+const AHEAD: usize = 32;
+
+/// About as many bytes as a dot, the marks and spaces of a line, and its end have.
+const REST: usize = 32;
 
 /// What a step answers.
 #[derive(Drop)]
@@ -215,7 +221,7 @@ fn push_joined(out: &mut Vec<u8>, path: &Path) -> Result<(), AllocError>
 {
     out.extend_from_slice(b"joined ")?;
     push_path(out, path)?;
-    out.extend_from_slice(b"\n")
+    Ok(out.push(b'\n')?)
 }
 
 /// `answer`, then each number, from the first on and before the end.
@@ -257,14 +263,70 @@ fn push_pairs(out: &mut Vec<u8>, pairs: &Graph) -> Result<(), AllocError>
 }
 
 /// A line of dot and triple for each pair.
-fn push_lines(out: &mut Vec<u8>, pairs: &[&Tagged]) -> Result<(), AllocError>
-    ensures ok { OnOk result (out.new.items ≡ out.old.items ++ flat_map pair_line (map (λ x. x.now) pairs.now)) }
+fn push_lines(out: &mut Vec<u8>, pairs: &LentPairs<'_>) -> Result<(), AllocError>
+    ensures ok { OnOk result (out.new.items ≡ out.old.items ++ flat_map pair_line pairs.now) }
     ensures err { OnErr result (KeepsStart out.old.items out.new.items) }
 {
-    for pair in pairs {
-        push_pair(out, pair)?;
+    for place in 0..pairs.len() {
+        push_at(out, pairs, place)?;
     }
     Ok(())
+}
+
+/// The line of the pair at a place, where one is there.
+#[tactic(auto, using(rdf_terms::proofs::Appending::keeps_same))]
+fn push_at(out: &mut Vec<u8>, pairs: &LentPairs<'_>, place: usize) -> Result<(), AllocError>
+    ensures ok { OnOk result
+        (out.new.items ≡ out.old.items ++ flat_map pair_line (option_to_list (slice_get pairs.now place))) }
+    ensures err { OnErr result (KeepsStart out.old.items out.new.items) }
+{
+    make_room(out, pairs, place)?;
+    match pairs.get(place) {
+        Some(pair) => push_pair(out, &pair.dot, pair.triple),
+        None => Ok(()),
+    }
+}
+
+/// Makes room for the lines of the pairs from a place on, at each 32nd place. Their texts are looked at here one right after another, so
+/// that the waits for what lies apart in memory overlap.
+fn make_room(out: &mut Vec<u8>, pairs: &LentPairs<'_>, place: usize) -> Result<(), AllocError>
+    ensures { out.new.items ≡ out.old.items }
+{
+    if place % AHEAD != 0 {
+        return Ok(());
+    }
+    out.reserve(bytes_from(pairs, place))
+}
+
+/// About as many bytes as the lines of the pairs from a place on have.
+fn bytes_from(pairs: &LentPairs<'_>, place: usize) -> usize {
+    let mut bytes: usize = 0;
+    for at in place..place.saturating_add(AHEAD) {
+        if let Some(triple) = pairs.triple(at) {
+            bytes = bytes.saturating_add(bytes_of(triple));
+        }
+    }
+    bytes
+}
+
+/// About as many bytes as the line of a triple has.
+fn bytes_of(triple: &Triple) -> usize {
+    let front = triple
+        .s
+        .as_str()
+        .len()
+        .saturating_add(triple.p.as_str().len());
+    front
+        .saturating_add(object_bytes(&triple.o))
+        .saturating_add(REST)
+}
+
+/// How many bytes the text of an object has, without its datatype and its escapes.
+fn object_bytes(object: &Term) -> usize {
+    match object {
+        Term::Iri(iri) => iri.as_str().len(),
+        Term::Literal(literal) => literal.lexical().len(),
+    }
 }
 
 /// The line of a text.
@@ -278,12 +340,13 @@ fn push_line(out: &mut Vec<u8>, text: &[u8]) -> Result<(), AllocError>
 }
 
 /// The line of a pair.
-fn push_pair(out: &mut Vec<u8>, pair: &Tagged) -> Result<(), AllocError>
-    ensures ok { OnOk result (out.new.items ≡ out.old.items ++ pair_line pair.now) }
+fn push_pair(out: &mut Vec<u8>, dot: &Dot, triple: &Triple) -> Result<(), AllocError>
+    ensures ok { OnOk result
+        (out.new.items ≡ out.old.items ++ pair_line (record { triple = triple.now; dot = dot.now })) }
     ensures err { OnErr result (KeepsStart out.old.items out.new.items) }
 {
-    push_dot(out, &pair.dot)?;
-    out.extend_from_slice(b" ")?;
-    write_triple(out, &pair.triple)?;
-    out.extend_from_slice(b"\n")
+    push_dot(out, dot)?;
+    out.push(b' ')?;
+    write_triple(out, triple)?;
+    Ok(out.push(b'\n')?)
 }

@@ -35,6 +35,7 @@ use Rattle.shell_session.specs.LiveCalls.{CloneGoesOn, CloneAnswers, CloneLeaves
 -- those of an operation that was to be made
 planned : (clone : LocalClone) (plan : UpdatePlan) (steps : List KeptStep) → AppendsPlanned clone plan steps → AppendsUpdate clone plan steps
 planned clone plan steps plans = record {
+  left = plans.due.left;
   effect = plans.due.effect;
   has = plans.due.has;
   may = plans.due.may;
@@ -52,6 +53,7 @@ update_due clone plan reply steps new (is_too_large left many) = inl refl
 update_due clone plan reply steps new (changes_nothing left updates) = inl refl
 update_due clone plan reply steps new (breaks_single left place breaks) = inl refl
 update_due clone plan reply steps new (makes_operation left entry made updates) = inr (record {
+  left = left;
   effect = updates.effect;
   has = updates.has;
   may = updates.updates.0;
@@ -217,7 +219,7 @@ module _ {B : Type 0} (log : B → Option Log) (meter : B → Meter) (old new : 
     pub keep_goes : (result : Result ℕ KeepFault) (reply : ShellReply) → IsKeepReply result reply → old.closed ≡ None
         → IfOk result (λ count. KeepsEither × (count ≡ length new.local.entries))
         → (IsErrOf result keep.GenerationsSpent ↔ (IsSpent Due old × ¬ IsErrOf result keep.NoMemory))
-        → IfErr result (λ fault. LeavesClone log meter (IsDueSwap Due old) ⊥ old new (keep_stop fault))
+        → IfErr result (λ fault. LeavesClone log meter (IsDueSwap Due old.generation) ⊥ old new (keep_stop fault))
         → ((steps : List KeptStep) × KeepSteps Due Step new.local result steps × Changes log meter steps old new.banks (IsOk result) (IsErrOf result keep.Device))
         → CloneGoesOn log meter (KeepsJournal Due Step old.generation old.local) old new reply
     keep_goes (Ok count) reply is is_open ok spent left durable =
@@ -234,18 +236,18 @@ module _ {B : Type 0} (log : B → Option Log) (meter : B → Meter) (old new : 
     abbrev Would : List KeptStep → Type 0
     Would steps = (next : LocalClone) × Step next × SwapsTo next steps
 
-    swaps_so : (steps : List KeptStep) → IsDueSwap Due old → Would steps → SwapsJournal Due Step old.generation steps
+    swaps_so : (steps : List KeptStep) → IsDueSwap Due old.generation → Would steps → SwapsJournal Due Step old.generation steps
     swaps_so steps is_due would = record { due = is_due.due; left = is_due.left; new = would.0; step = would.1; swaps = would.2 }
 
     short_of_memory : (steps : List KeptStep) → (steps ≡ []) ⊎ Would steps → LeavesFronts log meter steps old new.banks
-        → (new ≡ old) ⊎ IsDueSwap Due old → CloneLeavesFrontOfDue log meter (SwapsJournal Due Step old.generation) old new.banks
+        → (new ≡ old) ⊎ IsDueSwap Due old.generation → CloneLeavesFrontOfDue log meter (SwapsJournal Due Step old.generation) old new.banks
     short_of_memory steps (inl none) moments left = record { steps = steps; due = inl none; moments = moments }
     short_of_memory steps (inr would) moments (inl same) =
         record { steps = []; due = inl refl; moments = ap (λ (clone : BankedClone B). clone.banks) same }
     short_of_memory steps (inr would) moments (inr is_due) = record { steps = steps; due = inr (swaps_so steps is_due would); moments = moments }
 
     pub keep_stops : (result : Result ℕ KeepFault) → IsKeepStop result
-        → IfErr result (λ fault. LeavesClone log meter (IsDueSwap Due old) ⊥ old new (keep_stop fault))
+        → IfErr result (λ fault. LeavesClone log meter (IsDueSwap Due old.generation) ⊥ old new (keep_stop fault))
         → ((steps : List KeptStep) × KeepSteps Due Step new.local result steps × Changes log meter steps old new.banks (IsOk result) (IsErrOf result keep.Device))
         → CloneLeavesFrontOfDue log meter (SwapsJournal Due Step old.generation) old new.banks
     keep_stops (Ok count) is left durable = absurd is

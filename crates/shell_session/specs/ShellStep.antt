@@ -154,8 +154,9 @@ ShellStep (Live generation clone) command reply steps next = StaysLive generatio
 
 -- ---- what a command has to do on the banks
 
--- the clone makes the operation of an update, whose entry is appended
+-- the clone makes the operation of an update, for which a tick is left, and whose entry is appended
 pub record AppendsUpdate (clone : LocalClone) (plan : UpdatePlan) (steps : List KeptStep) : Type 0 where
+  pub left : ¬ HasSpentTicks clone
   pub effect : EffectValue
   pub has : HasEffect clone plan effect
   pub may : IsMakeable clone effect

@@ -3,6 +3,8 @@ use Rattle.std.proofs.Common.{◌≡◌, ◌≢◌, ◌⊎◌, ℕ, zero, suc, �
 use Rattle.std.proofs.lemmas.List.{append_cancel_left}
 use Rattle.std.specs.Prelude.{slice_get}
 use Rattle.std.specs.Result.{result_err}
+use Rattle.tree_clock.specs.Clock.{ticks_of}
+use Rattle.tree_clock.specs.Limits.{tick_limit}
 use Rattle.mld_io.specs.Arm.{Meter, Metered}
 use Rattle.mld_io.specs.Disk.{Log}
 use Rattle.crash_laws.specs.journal_store.Crashes.{LeavesNothingNew}
@@ -24,7 +26,7 @@ use Rattle.crash_laws.specs.clone_core.Banked.{BankedAsker, BankedClone, head_of
 use Rattle.crash_laws.specs.clone_core.CloneCalls.{LocallyReceives, Refuses}
 use Rattle.crash_laws.specs.clone_core.CloneClosing.{LeavesClone, update_stop, receive_stop, keep_stop}
 use Rattle.crash_laws.specs.clone_core.CloneUpdates.{LocallyUpdatesBy, RefusesUpdate, IsDueUpdate}
-use Rattle.crash_laws.specs.clone_core.Due.{IsDueMessage, IsDueSwap, IsSwapDue}
+use Rattle.crash_laws.specs.clone_core.Due.{HasToMake, IsDueMessage, IsDueSwap, IsSwapDue}
 use Rattle.crash_laws.specs.clone_core.DurableCalls.{LeavesFronts, Changes, Creates, RefusedSteps, AppendsPlanned, UpdateSteps, ReceivedSteps, WouldReceive, MessageSteps, SwapsTo, KeepSteps}
 use Rattle.crash_laws.specs.clone_core.Joining.{IsGiveFor, LocallyAdopts, banks_of_adopted, AdoptsWhole, FailsToAdopt}
 use Rattle.crash_laws.specs.clone_core.Keeping.{nothing_to_fuse, swapped, nothing_to_cut, cut}
@@ -43,8 +45,7 @@ use Rattle.crash_laws.specs.clone_parts.declared.faults.ReceiveFault.{ReceiveFau
 use Rattle.crash_laws.specs.clone_parts.declared.faults.ReceiveFault.TheVariants as receive
 use Rattle.crash_laws.specs.clone_parts.declared.faults.UpdateFault.{UpdateFault}
 use Rattle.crash_laws.specs.clone_parts.declared.faults.UpdateFault.TheVariants as update
-use Rattle.crash_laws.specs.Deeds.{HasLeafToGive}
-use Rattle.crash_laws.proofs.ToldDeeds.{may_give}
+use Rattle.crash_laws.proofs.ToldDeeds.{has_to_make}
 use Rattle.schedule_replies.specs.declared.replies.Reply.{Reply}
 use Rattle.world_commands.specs.declared.deliver.Received.{Received}
 use Rattle.world_commands.specs.declared.faults.WorldFault.{WorldFault}
@@ -119,12 +120,16 @@ planned_due old plan steps planned = record {
   appends = planned.appends.2;
 }
 
+-- a tick that is below the last one is left
+pub below_last : {B : Type 0} (clone : BankedClone B) → ticks_of clone.local.ticks clone.local.path < tick_limit → ticks_of clone.local.ticks clone.local.path ≢ tick_limit
+below_last clone below last = omega (arith, below, last)
+
 -- an update that was done made no operation, or appended it
-update_made : (old new : LocalClone) (plan : UpdatePlan) (answer : Done) (steps : List KeptStep) → LocallyUpdatesBy old plan answer new → UpdateSteps old plan (Ok answer) steps
-    → ((steps ≡ []) × UpdatesNone old plan) ⊎ AppendsDue old plan steps
-update_made old new plan done.Nothing steps ok none = inl (none, changes_nothing new ok)
-update_made old new plan (done.Made entry) steps ok made = inr (record {
-  due = record { effect = ok.effect; has = ok.has; may = ok.updates.0 };
+update_made : (old new : LocalClone) (plan : UpdatePlan) (answer : Done) (steps : List KeptStep) → ticks_of old.ticks old.path ≢ tick_limit
+    → LocallyUpdatesBy old plan answer new → UpdateSteps old plan (Ok answer) steps → ((steps ≡ []) × UpdatesNone old plan) ⊎ AppendsDue old plan steps
+update_made old new plan done.Nothing steps left ok none = inl (none, changes_nothing new ok)
+update_made old new plan (done.Made entry) steps left ok made = inr (record {
+  due = record { left = left; effect = ok.effect; has = ok.has; may = ok.updates.0 };
   ordered = ok.updates.1.ordered;
   entry = entry;
   time = ok.updates.1.time;
@@ -138,10 +143,10 @@ passed_none : (old new : LocalClone) (sent : Message) (answer : Got) (steps : Li
 passed_none old new sent answer steps ok made none = received_none answer new ok (subst (λ (s : List KeptStep). ReceivedSteps sent answer old new s) none made)
 
 received_made : (old new : LocalClone) (sent : Message) (answer : Got) (steps : List KeptStep) → LocallyReceives old sent answer new → ReceivedSteps sent answer old new steps
-    → (steps ≡ []) ⊎ (HasLeafToGive old sent × WouldReceive old sent steps)
-received_made old new (message.Range entry) (got.Took ranges) steps ok taken = inr (tt, (new, ranges, ok.1, taken))
+    → (steps ≡ []) ⊎ (HasToMake old sent × WouldReceive old sent steps)
+received_made old new (message.Range entry) (got.Took ranges) steps ok taken = inr (record { own = ok.0; ready = ok.1.ready }, (new, ranges, ok.1, taken))
 received_made old new (message.JoinAsk id) (got.Answer answers) steps ok forked = inr (record { other = ok.0; room = ok.1.2.room }, forked)
-received_made old new (message.Snapshot snapshot) (got.Merged ranges) steps ok merged = inr (tt, (new, ranges, ok.1, merged))
+received_made old new (message.Snapshot snapshot) (got.Merged ranges) steps ok merged = inr (record { own = ok.0; lacks = ok.1.lacks }, (new, ranges, ok.1, merged))
 received_made old new sent answer steps ok none = inl none
 
 -- a journal that was kept is due, or is kept already
@@ -386,16 +391,17 @@ module _ {B : Type 0} (log : B → Option Log) (meter : B → Meter) where
   updated_left old new plan ended answer steps All Failed all unfailed made (inr due) =
       changes_left log meter (doing_update plan) ended old new steps All Failed made (due_some old.local plan steps due) due (λ whole. all)
 
-  pub update_left : (old new : BankedClone B) (plan : UpdatePlan) (ended : Option WorldFault) (r : Result Done UpdateFault) → (ended ≡ None → UpdateAnswers r)
+  pub update_left : (old new : BankedClone B) (plan : UpdatePlan) (ended : Option WorldFault) (r : Result Done UpdateFault) → ticks_of old.local.ticks old.local.path ≢ tick_limit
+      → (ended ≡ None → UpdateAnswers r)
       → ((clone : ℕ) → ended ≡ Some (faults.Device clone) → r ≡ Err update.Device)
       → IfOk r (λ answer. LocallyUpdatesBy old.local plan answer new.local) → IfErr r (RefusesUpdate old.local plan)
       → IfErr r (λ fault. LeavesClone log meter (IsDueUpdate old.local plan) ⊥ old new (update_stop fault))
       → ((steps : List KeptStep) × UpdateSteps old.local plan r steps × Changes log meter steps old new.banks (IsOk r) (IsErrOf r update.Device))
       → LeavesState log meter (doing_update plan) ended (states.Live old) (states.Live new)
-  update_left old new plan ended (Ok answer) told fails ok refuses left durable =
+  update_left old new plan ended (Ok answer) tick told fails ok refuses left durable =
       updated_left old new plan ended answer durable.0 _ _ refl (λ clone is. absurd (cc (fails clone is))) durable.2
-      (update_made old.local new.local plan answer durable.0 ok durable.1)
-  update_left old new plan ended (Err fault) told fails ok refuses left durable =
+      (update_made old.local new.local plan answer durable.0 tick ok durable.1)
+  update_left old new plan ended (Err fault) tick told fails ok refuses left durable =
       refused_left log meter (doing_update plan) ended old new (IsDueUpdate old.local plan) ⊥ (AppendsPlanned old.local plan) (update_stop fault) durable.0 _ _
       (λ due would. planned_due old.local plan durable.0 would) (λ would. due_some old.local plan durable.0 (planned_due old.local plan durable.0 would))
       (λ whole. update_unstopped fault (told whole)) (λ whole. update_none old.local plan fault refuses (told whole))
@@ -405,7 +411,7 @@ module _ {B : Type 0} (log : B → Option Log) (meter : B → Meter) where
       → ((clone : ℕ) → ended ≢ Some (faults.Device clone)) → LocallyReceives old.local sent answer new.local
       → ReceivedSteps sent answer old.local new.local steps
       → Changes log meter steps old new.banks All Failed
-      → (steps ≡ []) ⊎ (HasLeafToGive old.local sent × WouldReceive old.local sent steps) → LeavesState log meter (doing_receive sent) ended (states.Live old) (states.Live new)
+      → (steps ≡ []) ⊎ (HasToMake old.local sent × WouldReceive old.local sent steps) → LeavesState log meter (doing_receive sent) ended (states.Live old) (states.Live new)
   received_left old new sent ended answer steps All Failed all unfailed ok are made (inl none) =
       none_left log meter (doing_receive sent) ended old new steps All Failed made none
       (uncalled_by (doing_receive sent) (states.Live old.local) ended (λ whole. passed_none old.local new.local sent answer steps ok are none) unfailed)
@@ -423,7 +429,7 @@ module _ {B : Type 0} (log : B → Option Log) (meter : B → Meter) where
       (received_made old.local new.local sent answer durable.0 ok durable.1)
   receive_left old new sent ended (Err fault) told fails ok refuses left durable =
       refused_left log meter (doing_receive sent) ended old new (IsDueMessage old sent) (IsSwapDue sent) (WouldReceive old.local sent) (receive_stop fault) durable.0 _ _
-      (λ due would. (may_give old sent due, would)) (λ would. would_some old.local sent durable.0 would) (λ whole. message_unstopped fault (told whole))
+      (λ due would. (has_to_make old sent due, would)) (λ would. would_some old.local sent durable.0 would) (λ whole. message_unstopped fault (told whole))
       (λ whole. message_none old.local sent fault refuses (told whole))
       (λ clone is. let same : fault ≡ receive.Device = cc (fails clone is) in ap (λ (f : ReceiveFault). receive_stop f) same) left durable.1 durable.2
 
@@ -452,13 +458,13 @@ module _ {B : Type 0} (log : B → Option Log) (meter : B → Meter) where
 
   pub keep_left : (number : ℕ) (keeping : Keeping) (old new : BankedClone B) (r : Result ℕ KeepFault)
       → IfOk r (λ count. KeepsBy keeping old new × (count ≡ length new.local.entries))
-      → IfErr r (λ fault. LeavesClone log meter (IsDueSwap (IsKeepDue keeping old.local) old) ⊥ old new (keep_stop fault))
+      → IfErr r (λ fault. LeavesClone log meter (IsDueSwap (IsKeepDue keeping old.local) old.generation) ⊥ old new (keep_stop fault))
       → ((steps : List KeptStep) × KeepSteps (IsKeepDue keeping old.local) (KeepsLocally keeping old.local) new.local r steps
       × Changes log meter steps old new.banks (IsOk r) (IsErrOf r keep.Device))
       → LeavesState log meter (doing_keep keeping) (fault_of_keeping number r) (states.Live old) (states.Live new)
   keep_left number keeping old new (Ok count) ok left durable = kept_left keeping old new count durable.0 _ _ refl ok.0 durable.2 durable.1
   keep_left number keeping old new (Err fault) ok left durable =
-      refused_left log meter (doing_keep keeping) (fault_of_keeping {T = ℕ} number (Err fault)) old new (IsDueSwap (IsKeepDue keeping old.local) old) ⊥
+      refused_left log meter (doing_keep keeping) (fault_of_keeping {T = ℕ} number (Err fault)) old new (IsDueSwap (IsKeepDue keeping old.local) old.generation) ⊥
       (λ made. (next : LocalClone) × KeepsLocally keeping old.local next × SwapsTo next made) (keep_stop fault) durable.0 _ _
       (λ due would. (would.0, due.due, would.1, would.2)) (λ would. swap_some would.0 durable.0 would.2) (λ whole. unkept number fault whole) (λ whole. unkept number fault whole)
       (λ clone is. keep_failed number fault clone is) left durable.1 durable.2

@@ -20,9 +20,9 @@ use Rattle.crash_laws.specs.clone_parts.declared.answers.Got.{Got}
 use Rattle.crash_laws.specs.clone_parts.declared.faults.ReceiveFault.TheVariants as fault
 use Rattle.crash_laws.specs.clone_core.CloneCalls.{LocallyReceives, Refuses}
 use Rattle.crash_laws.specs.clone_core.CloneUpdates.{IsDueUpdate, LocallyUpdatesBy, BreaksSingle}
+use Rattle.crash_laws.specs.clone_core.Due.{HasToMake}
 use Rattle.crash_laws.specs.clone_core.DurableCalls.{ReceivedSteps, WouldReceive, SwapsTo}
 use Rattle.crash_laws.specs.clone_core.Joining.{GivesNone}
-use Rattle.crash_laws.specs.Deeds.{HasLeafToGive}
 use Rattle.world_commands.specs.LeftBanks.{WorkOnBanks}
 use Rattle.world_commands.specs.declared.keeping.Keeping.{Keeping}
 use Rattle.world_commands.specs.declared.keeping.Keeping.TheVariants as keepings
@@ -87,7 +87,7 @@ pub data ReceivesNone (old : LocalClone) (sent : Message) : Type 0 where
 -- a message is received
 abbrev pub doing_receive : Message → WorkOnBanks
 doing_receive sent = record {
-  changes = λ old steps. HasLeafToGive old sent × WouldReceive old sent steps;
+  changes = λ old steps. HasToMake old sent × WouldReceive old sent steps;
   takes = λ asker leaf. (give : Give) × (sent ≡ message.JoinGive give) × (leaf ≡ give_value give) × (leaf.id ≡ asker.id);
   opens = ⊥;
   idles = WhereUp (λ old. ReceivesNone old sent) (λ asker. GivesNone asker sent);

@@ -30,8 +30,8 @@ pub returns-clause-stopped : goal.returns-clause-stopped
 returns-clause-stopped g c =
     let e = c.receive-answered.ensures in
     on_err c.send_for.result
-    (receive_stops g.B.Banks.log g.B.Banks.meter c.args.clone.now c.receive-answered.new.self c.args.message.now c.receive-answered.result c.requires.opened
-    e.ok e.spent e.left e.durable)
+    (receive_stops g.B.Banks.log g.B.Banks.meter c.args.clone.now c.receive-answered.new.self c.args.message.now c.receive-answered.result
+    e.ok e.opened e.left e.durable)
 
 pub returns-clause-fault : goal.returns-clause-fault
 returns-clause-fault g c =

@@ -1,4 +1,4 @@
-use Rattle.std.proofs.Common.{◌∙◌, ◌++◌, ◌∷◌, [], ap, codes, length, map, rules}
+use Rattle.std.proofs.Common.{◌∙◌, ◌++◌, ◌∷◌, [], ap, codes, length, rules}
 use Rattle.std.specs.Fmt.{decimal}
 use Rattle.std.specs.List.{flat_map}
 use Rattle.schedule_model.specs.Characters.{line_end}
@@ -10,4 +10,4 @@ pub returns-clause-ok : goal.returns-clause-ok
 returns-clause-ok c =
     pairs_shown c.args.out.now.items c.push_count.new.out.items c.push_lines.new.out.items (codes "has " ++ (decimal (length c.args.pairs.now.pairs) ++ line_end ∷ [])) c.args.pairs.now.pairs
     (search rules) (search rules)
-    (c.in_ok-push_lines.ensures.ok ∙ ap (λ ps. c.push_count.new.out.items ++ flat_map pair_line ps) (ap (map (λ x. x.now)) c.deref.ensures.value ∙ c.in_ok-list.ensures))
+    (c.in_ok-push_lines.ensures.ok ∙ ap (λ ps. c.push_count.new.out.items ++ flat_map pair_line ps) c.in_ok-list.ensures)

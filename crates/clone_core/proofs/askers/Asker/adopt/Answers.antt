@@ -33,7 +33,7 @@ returns-in-Err-clause-durable g c =
       domain = c.self.inside.domain;
       properties = c.self.inside.properties.items;
       path = c.args.give.now.path;
-      base = record { ticks = c.in-Ok.base.clock.ticks; pairs = c.in-Ok.base.tagged.items };
+      base = record { ticks = c.in-Ok.base.clock.ticks; pairs = c.in-Ok.base.tagged };
     } in
     let wanted = head_of (joined_clone c.args.self.asker (give_value c.args.give.now)) in
     let head_is : head ≡ wanted = λ i. record {
@@ -55,7 +55,7 @@ returns-in-Ok-create-clause-durable g c =
       domain = c.self.inside.domain;
       properties = c.self.inside.properties.items;
       path = c.args.give.now.path;
-      base = record { ticks = c.in-Ok.base.clock.ticks; pairs = c.in-Ok.base.tagged.items };
+      base = record { ticks = c.in-Ok.base.clock.ticks; pairs = c.in-Ok.base.tagged };
     } in
     let wanted = head_of (joined_clone c.args.self.asker (give_value c.args.give.now)) in
     let head_is : head ≡ wanted = λ i. record {

@@ -11,14 +11,14 @@ use Rattle.clone_core.proofs.clones.MldClone.genesis.Goals as goal
 pub returns-in-Err-clause-durable : goal.returns-in-Err-clause-durable
 returns-in-Err-clause-durable g c =
     let kept = c.kept_properties.result.items in
-    let head : HeadValue = record { id = c.args.id; domain = c.args.domain; properties = kept; path = c.root.result; base = record { ticks = c.empty.result.ticks; pairs = c.new.result.items } } in
+    let head : HeadValue = record { id = c.args.id; domain = c.args.domain; properties = kept; path = c.root.result; base = record { ticks = c.empty.result.ticks; pairs = c.new.result } } in
     let wanted = head_of (blank_clone c.args.id c.args.domain kept []) in
     let head_is : head ≡ wanted = λ i. record {
       id = c.args.id;
       domain = c.args.domain;
       properties = kept;
       path = c.root.ensures i;
-      base = record { ticks = c.empty.ensures i; pairs = c.new.ensures.items i };
+      base = record { ticks = c.empty.ensures i; pairs = c.new.ensures i };
     } in (
       kept,
       c.kept_properties.ensures,
@@ -29,14 +29,14 @@ returns-in-Err-clause-durable g c =
 pub returns-in-Ok-clause-durable : goal.returns-in-Ok-clause-durable
 returns-in-Ok-clause-durable g c =
     let kept = c.kept_properties.result.items in
-    let head : HeadValue = record { id = c.args.id; domain = c.args.domain; properties = kept; path = c.root.result; base = record { ticks = c.empty.result.ticks; pairs = c.new.result.items } } in
+    let head : HeadValue = record { id = c.args.id; domain = c.args.domain; properties = kept; path = c.root.result; base = record { ticks = c.empty.result.ticks; pairs = c.new.result } } in
     let wanted = head_of (blank_clone c.args.id c.args.domain kept []) in
     let head_is : head ≡ wanted = λ i. record {
       id = c.args.id;
       domain = c.args.domain;
       properties = kept;
       path = c.root.ensures i;
-      base = record { ticks = c.empty.ensures i; pairs = c.new.ensures.items i };
+      base = record { ticks = c.empty.ensures i; pairs = c.new.ensures i };
     } in
     let now = c.in-Ok.journal.banks in (
       kept,

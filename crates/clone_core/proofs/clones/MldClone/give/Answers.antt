@@ -1,10 +1,12 @@
-use Rattle.std.proofs.Common.{◌≡◌, ◌∙◌, ◌<◌, ◌++◌, ◌∷◌, [], List, length, false, inl, refl, sym, ap, subst}
+use Rattle.std.proofs.Common.{◌≡◌, ◌∙◌, ◌<◌, ◌++◌, ◌∷◌, [], ℕ, List, length, false, inl, refl, sym, ap, subst}
 use Rattle.std.proofs.lemmas.Result.{err_from_is_err_and}
+use Rattle.mld_ops.specs.declared.messages.Give.{Give}
 use Rattle.mld_ops.specs.declared.messages.Message.{Message}
 use Rattle.mld_ops.specs.declared.messages.Message.TheVariants as message
 use Rattle.mld_ops.specs.Messages.{snapshot_value}
 use Rattle.mld_model.specs.Local.{LocalClone, snapshot_of}
 use Rattle.tree_clock.specs.Limits.{path_limit}
+use Rattle.tree_clock.specs.Path.{one_letter}
 use Rattle.journal_store.specs.declared.faults.Why.{Why}
 use Rattle.journal_store.specs.declared.faults.Why.TheVariants as why
 use Rattle.clone_parts.specs.KeptSteps.{Forked}
@@ -29,6 +31,9 @@ append_fork-requires g c =
     fork_may g.B.Banks.log c.self.inside.journal (local_of c.self.inside) c.self.invariant.1 (ap (λ v. v.closed) c.self.view_is ∙ c.requires.opened)
     (subst (λ (clone : BankedClone _). length clone.local.path < path_limit) (sym c.self.view_is) c.requires.due.room)
 
+pub child-requires : goal.child-requires
+child-requires g c = subst (λ (p : List ℕ). length p < path_limit) (sym c.path.ensures) c.requires.due.room
+
 pub invariant_of-self : goal.invariant_of-self
 invariant_of-self g c = (
   c.self.invariant.0,
@@ -39,7 +44,7 @@ invariant_of-self g c = (
 pub invariant_of-self-2 : goal.invariant_of-self-2
 invariant_of-self-2 g c =
     let old = local_of c.self.inside in
-    let left = rw c.unwrap-right.ensures at c.give.ensures.left in (
+    let left = rw c.unwrap.ensures at c.give.ensures.left in (
       forked_local old c.give.new.self c.self.invariant.0,
       forked_on_banks g.B.Banks.log c.self.inside.journal c.append_fork.new.journal old c.self.invariant.1 (ap (λ v. v.closed) c.self.view_is ∙ c.requires.opened) c.give.new.self left
           c.append_fork.ensures.told c.in_ok-append_fork.ensures.kept c.in_ok-append_fork.ensures.ok,
@@ -48,6 +53,11 @@ invariant_of-self-2 g c =
 pub returns-in_err-snapshot-clause-durable : goal.returns-in_err-snapshot-clause-durable
 returns-in_err-snapshot-clause-durable g c =
     let p = err_from_is_err_and c.from_residual.result c.from_residual.ensures.1 in
+    rw (p.1, p.2) ([], inl refl, changes_none g.B.Banks.log g.B.Banks.meter c.args.self.now c.args.self.now.banks refl (λ f. absurd cc))
+
+pub returns-in_err-given-clause-durable : goal.returns-in_err-given-clause-durable
+returns-in_err-given-clause-durable g c =
+    let p = err_from_is_err_and c.from_residual-in_err-given.result c.from_residual-in_err-given.ensures.1 in
     rw (p.1, p.2) ([], inl refl, changes_none g.B.Banks.log g.B.Banks.meter c.args.self.now c.args.self.now.banks refl (λ f. absurd cc))
 
 pub returns-in_err-messages-clause-durable : goal.returns-in_err-messages-clause-durable
@@ -103,11 +113,13 @@ module _ (g : Over) (c : goal.After-from_vec g) where
       let snapshot = c.in_ok-snapshot.snapshot in
       let room = subst (λ (clone : BankedClone _). length clone.local.path < path_limit) (sym c.self.view_is) c.requires.due.room in
       let have = subst (λ (clone : BankedClone _). snapshot_value snapshot ≡ snapshot_of clone.local) (sym c.self.view_is) c.in_ok-snapshot.ensures.copy in
-      let left = rw c.unwrap-right.ensures at c.give.ensures.left in
-      let right = rw c.unwrap-right.ensures at c.give.ensures.right in
-      let given = message.JoinGive (record { id = id; path = c.path.result; snapshot = snapshot }) in
-      let one = c.from_vec.ensures ∙ c.push_reserved.ensures.items ∙ ap (λ (ms : List Message). ms ++ given ∷ []) c.in_ok-messages.ensures.items in
-      forks_as old id c.give.new.self c.path.result snapshot c.from_vec.result room have left (c.path.ensures ∙ right) one
+      let left = rw c.unwrap.ensures at c.give.ensures.left in
+      let path : c.path.result ≡ old.path = c.path.ensures ∙ sym (ap (λ (v : BankedClone _). v.local.path) c.self.view_is) in
+      let right = c.child.ensures ∙ ap (λ (p : List ℕ). p ++ one_letter ∷ []) path in
+      let given = c.in_ok-given.given in
+      let one = c.from_vec.ensures ∙ c.push_reserved.ensures.items ∙ ap (λ (ms : List Message). ms ++ message.JoinGive given ∷ []) c.in_ok-messages.ensures.items
+      ∙ ap (λ (give : Give). message.JoinGive give ∷ []) c.in_ok-given.ensures in
+      forks_as old id c.give.new.self c.child.result snapshot c.from_vec.result room have left right one
 
 pub returns-clause-ok : goal.returns-clause-ok
 returns-clause-ok g c = (c.requires.due.other, subst (λ (clone : BankedClone _). LocallyGives clone.local c.args.id.now c.from_vec.result (new g c)) c.self.view_is (gives g c))

@@ -86,8 +86,8 @@ returns-in_err-swap_and_append-clause-durable g c =
     let head = head_value c.in_ok-head.head in
     let entries = c.deref.result.now in
     let lacks = subst (λ (clone : BankedClone _). ¬ KnowsSnapshot clone.local snapshot) (sym c.self.view_is) c.requires.due.due.lacks in
-    let head_is : head ≡ head_over old merge.base.ticks merge.base_pairs.items =
-    c.in_ok-head.ensures ∙ sym (ap (λ (v : BankedClone _). head_over v.local merge.base.ticks merge.base_pairs.items) c.self.view_is) in
+    let head_is : head ≡ head_over old merge.base.ticks merge.base_pairs =
+    c.in_ok-head.ensures ∙ sym (ap (λ (v : BankedClone _). head_over v.local merge.base.ticks merge.base_pairs) c.self.view_is) in
     let step = merged_step old snapshot merge c.in_ok-base.ensures lacks head head_is entries c.deref.ensures.value in
     let would = subst (λ (clone : BankedClone _). WouldReceive clone.local (message.Snapshot c.args.snapshot.now) (Swapped head [] ∷ appends entries)) c.self.view_is step in
     let metered = subst (λ (n : ℕ). Metered (swap_calls + n) (g.B.Banks.meter was.banks) (g.B.Banks.meter now.banks) (IsOk {T = Unit {0}} {E = Why} (Err told)) (IsErrOf {T = Unit {0}} {E = Why} (Err told) why.Device)) (sym (appends_calls entries)) c.in_err-swap_and_append.ensures.meter in
@@ -116,12 +116,12 @@ invariant_of-self-2 g c =
     let lacks = subst (λ (clone : BankedClone _). ¬ KnowsSnapshot clone.local snapshot) (sym c.self.view_is) c.requires.due.due.lacks in
     let local = merged_is_local old snapshot merge c.in_ok-base.ensures held c.replace_held.ensures c.self.invariant.0 lacks in
     let merged = merged_clone old snapshot merge c.in_ok-base.ensures held c.replace_held.ensures in
-    let new = record merged { base = c.replace_base.new.base.ticks; base_pairs = c.replace_base.new.pairs.items } in
+    let new = record merged { base = c.replace_base.new.base.ticks; base_pairs = c.replace_base.new.pairs } in
     let base_is : c.replace_base.new.base.ticks ≡ merge.base.ticks = c.replace_base.ensures.base ∙ ap (λ (h : HeadValue). h.base.ticks) c.in_ok-head.ensures in
-    let pairs_are : c.replace_base.new.pairs.items ≡ merge.base_pairs.items = c.replace_base.ensures.pairs ∙ ap (λ (h : HeadValue). h.base.pairs) c.in_ok-head.ensures in
+    let pairs_are : c.replace_base.new.pairs ≡ merge.base_pairs = c.replace_base.ensures.pairs ∙ ap (λ (h : HeadValue). h.base.pairs) c.in_ok-head.ensures in
     let same : merged ≡ new = λ i. record merged { base = sym base_is i; base_pairs = sym pairs_are i } in
     let head_is : head ≡ head_over old new.base new.base_pairs =
-    c.in_ok-head.ensures ∙ sym (ap (λ (v : BankedClone _). head_over v.local merge.base.ticks merge.base_pairs.items) c.self.view_is)
+    c.in_ok-head.ensures ∙ sym (ap (λ (v : BankedClone _). head_over v.local merge.base.ticks merge.base_pairs) c.self.view_is)
     ∙ (λ i. head_over old (sym base_is i) (sym pairs_are i)) in
     let keeps = λ (kept : Kept) (k : KeptBy (g.B.Banks.log was.banks) was.closed kept).
     subst (λ (es : List EntryValue). KeepsNow (swapped head es kept) (g.B.Banks.log now.banks)) c.deref.ensures.value (c.in_ok-swap_and_append.ensures.kept kept k) in (
@@ -139,9 +139,9 @@ returns-clause-durable g c =
     let head = head_value c.in_ok-head.head in
     let entries = c.deref.result.now in
     let base_is : c.replace_base.new.base.ticks ≡ merge.base.ticks = c.replace_base.ensures.base ∙ ap (λ (h : HeadValue). h.base.ticks) c.in_ok-head.ensures in
-    let pairs_are : c.replace_base.new.pairs.items ≡ merge.base_pairs.items = c.replace_base.ensures.pairs ∙ ap (λ (h : HeadValue). h.base.pairs) c.in_ok-head.ensures in
-    let head_is : head ≡ head_over old c.replace_base.new.base.ticks c.replace_base.new.pairs.items =
-    c.in_ok-head.ensures ∙ sym (ap (λ (v : BankedClone _). head_over v.local merge.base.ticks merge.base_pairs.items) c.self.view_is)
+    let pairs_are : c.replace_base.new.pairs ≡ merge.base_pairs = c.replace_base.ensures.pairs ∙ ap (λ (h : HeadValue). h.base.pairs) c.in_ok-head.ensures in
+    let head_is : head ≡ head_over old c.replace_base.new.base.ticks c.replace_base.new.pairs =
+    c.in_ok-head.ensures ∙ sym (ap (λ (v : BankedClone _). head_over v.local merge.base.ticks merge.base_pairs) c.self.view_is)
     ∙ (λ i. head_over old (sym base_is i) (sym pairs_are i)) in
     let metered = subst (λ (n : ℕ). Metered (swap_calls + n) (g.B.Banks.meter was.banks) (g.B.Banks.meter now.banks) (IsOk {T = Unit {0}} {E = Why} (Ok tt)) (IsErrOf {T = Unit {0}} {E = Why} (Ok tt) why.Device)) (sym (appends_calls entries)) c.in_ok-swap_and_append.ensures.meter in (
       Swapped head [] ∷ appends entries,

@@ -16,7 +16,7 @@ swap_truncated-requires-clause-opened g c = ap (λ (v : BankedClone _). v.closed
 
 pub swap_truncated-requires-clause-due : goal.swap_truncated-requires-clause-due
 swap_truncated-requires-clause-due g c =
-    subst (λ (v : BankedClone _). IsDueSwap (c.args.keep < length v.local.entries) v) (sym c.renew_pairs.ensures) c.requires.due
+    subst (λ (v : BankedClone _). IsDueSwap (c.args.keep < length v.local.entries) v.generation) (sym c.renew_pairs.ensures) c.requires.due
 
 pub returns-in_err-renew_pairs-clause-durable : goal.returns-in_err-renew_pairs-clause-durable
 returns-in_err-renew_pairs-clause-durable g c =
@@ -34,7 +34,7 @@ returns-clause-opened g c =
 pub returns-clause-left : goal.returns-clause-left
 returns-clause-left g c =
     subst (λ (v : BankedClone _). IfErr c.swap_truncated.result (λ fault.
-    StopsClone g.B.Banks.log g.B.Banks.meter (IsDueSwap (c.args.keep < length v.local.entries) v) ⊥ v c.swap_truncated.new.self (keep_stop fault))) c.renew_pairs.ensures c.swap_truncated.ensures.left
+    StopsClone g.B.Banks.log g.B.Banks.meter (IsDueSwap (c.args.keep < length v.local.entries) v.generation) ⊥ v c.swap_truncated.new.self (keep_stop fault))) c.renew_pairs.ensures c.swap_truncated.ensures.left
 
 pub returns-clause-durable : goal.returns-clause-durable
 returns-clause-durable g c =

@@ -37,8 +37,8 @@ swap_kept-requires-clause-ready g c =
     let are = subst (λ (es : List EntryValue). (entry : EntryValue) → Has es entry → IsEntry entry) c.deref.ensures.value c.in_ok-entries.ensures.entries in
     let base : c.in_ok-head.head.base.ticks ≡ old.base =
     ap (λ (h : HeadValue). h.base.ticks) c.in_ok-head.ensures ∙ c.in_ok-base.ensures.ok in
-    subst (λ (ts : List (List ℕ × ℕ)). AreReadyEntries ts c.deref-3.result.now) (sym base)
-    (subst (λ (es : List EntryValue). AreReadyEntries old.base es) (sym c.deref-3.ensures.value) (compacted_ready old entries c.self.invariant.0 fused are))
+    subst (λ (ts : List (List ℕ × ℕ)). AreReadyEntries ts c.deref-2.result.now) (sym base)
+    (subst (λ (es : List EntryValue). AreReadyEntries old.base es) (sym c.deref-2.ensures.value) (compacted_ready old entries c.self.invariant.0 fused are))
 
 pub returns-in_err-entries-clause-durable : goal.returns-in_err-entries-clause-durable
 returns-in_err-entries-clause-durable g c =
@@ -91,12 +91,12 @@ returns-in_err-swap_kept-clause-durable g c =
     let head = head_value c.in_ok-head.head in
     let fused = subst (λ (es : List EntryValue). AreFusedRuns es entries) c.deref.ensures.value c.in_ok-entries.ensures.fused in
     let are = subst (λ (es : List EntryValue). (entry : EntryValue) → Has es entry → IsEntry entry) c.deref.ensures.value c.in_ok-entries.ensures.entries in
-    let pairs_are = c.in_ok-pairs.ensures ∙ c.deref-2.ensures.value in
-    let head_is : head ≡ head_of old = c.in_ok-head.ensures ∙ sym (ap (λ (v : BankedClone _). head_over v.local c.in_ok-base.base.ticks c.in_ok-pairs.pairs.items) c.self.view_is)
+    let pairs_are = c.in_ok-pairs.ensures in
+    let head_is : head ≡ head_of old = c.in_ok-head.ensures ∙ sym (ap (λ (v : BankedClone _). head_over v.local c.in_ok-base.base.ticks c.in_ok-pairs.pairs) c.self.view_is)
     ∙ (λ i. head_over old (c.in_ok-base.ensures.ok i) (pairs_are i)) in
-    let step = Swapped head c.deref-3.result.now in
+    let step = Swapped head c.deref-2.result.now in
     let would = subst (λ (clone : BankedClone _). Compacts clone (step ∷ [])) c.self.view_is
-    (record old { entries = entries }, compacted_is old entries c.self.invariant.0 fused are, λ i. Swapped (head_is i) (c.deref-3.ensures.value i) ∷ []) in
+    (record old { entries = entries }, compacted_is old entries c.self.invariant.0 fused are, λ i. Swapped (head_is i) (c.deref-2.ensures.value i) ∷ []) in
     rw (p.1, p.2)
     (swap_refused (Unit {0}) (Unit {0}) g.B.Banks.log g.B.Banks.meter was now old c.args.self.now c.self.view_is c.self.invariant.1 (ap (λ v. v.closed) c.self.view_is ∙ c.requires.opened)
     c.swap_kept.ensures.told (Compacts c.args.self.now) step [] would c.swap_kept.ensures.moments KeepFault keep.Device keep_fault_of keep_stop keep_tells refl refl told
@@ -111,11 +111,11 @@ invariant_of-self-2 g c =
     let head = head_value c.in_ok-head.head in
     let fused = subst (λ (es : List EntryValue). AreFusedRuns es entries) c.deref.ensures.value c.in_ok-entries.ensures.fused in
     let are = subst (λ (es : List EntryValue). (entry : EntryValue) → Has es entry → IsEntry entry) c.deref.ensures.value c.in_ok-entries.ensures.entries in
-    let pairs_are = c.in_ok-pairs.ensures ∙ c.deref-2.ensures.value in
-    let head_is : head ≡ head_of old = c.in_ok-head.ensures ∙ sym (ap (λ (v : BankedClone _). head_over v.local c.in_ok-base.base.ticks c.in_ok-pairs.pairs.items) c.self.view_is)
+    let pairs_are = c.in_ok-pairs.ensures in
+    let head_is : head ≡ head_of old = c.in_ok-head.ensures ∙ sym (ap (λ (v : BankedClone _). head_over v.local c.in_ok-base.base.ticks c.in_ok-pairs.pairs) c.self.view_is)
     ∙ (λ i. head_over old (c.in_ok-base.ensures.ok i) (pairs_are i)) in
     let keeps = λ (kept : Kept) (k : KeptBy (g.B.Banks.log was.banks) was.closed kept).
-    subst (λ (es : List EntryValue). KeepsNow (swapped head es kept) (g.B.Banks.log now.banks)) c.deref-3.ensures.value (c.in_ok-swap_kept.ensures.kept kept k) in (
+    subst (λ (es : List EntryValue). KeepsNow (swapped head es kept) (g.B.Banks.log now.banks)) c.deref-2.ensures.value (c.in_ok-swap_kept.ensures.kept kept k) in (
       compacted_is_local old entries c.self.invariant.0 fused are,
       swapped_on_banks g.B.Banks.log was now old c.self.invariant.1 (ap (λ v. v.closed) c.self.view_is ∙ c.requires.opened) g.B.Banks.meter head (record old { entries = entries })
           c.swap_kept.ensures.told keeps c.in_ok-swap_kept.ensures.ok head_is,
@@ -127,12 +127,12 @@ returns-clause-durable g c =
     let was = c.self.inside.journal in
     let now = c.swap_kept.new.journal in
     let head = head_value c.in_ok-head.head in
-    let pairs_are = c.in_ok-pairs.ensures ∙ c.deref-2.ensures.value in
-    let head_is : head ≡ head_of old = c.in_ok-head.ensures ∙ sym (ap (λ (v : BankedClone _). head_over v.local c.in_ok-base.base.ticks c.in_ok-pairs.pairs.items) c.self.view_is)
+    let pairs_are = c.in_ok-pairs.ensures in
+    let head_is : head ≡ head_of old = c.in_ok-head.ensures ∙ sym (ap (λ (v : BankedClone _). head_over v.local c.in_ok-base.base.ticks c.in_ok-pairs.pairs) c.self.view_is)
     ∙ (λ i. head_over old (c.in_ok-base.ensures.ok i) (pairs_are i)) in
-    let step = Swapped head c.deref-3.result.now in (
+    let step = Swapped head c.deref-2.result.now in (
       step ∷ [],
-      inr (c.requires.due.due, λ i. Swapped (head_is i) (c.deref-3.ensures.value i) ∷ []),
+      inr (c.requires.due.due, λ i. Swapped (head_is i) (c.deref-2.ensures.value i) ∷ []),
       changes_made g.B.Banks.log g.B.Banks.meter was now old c.args.self.now c.self.view_is c.self.invariant.1 (ap (λ v. v.closed) c.self.view_is ∙ c.requires.opened)
           c.swap_kept.ensures.told step [] c.swap_kept.ensures.moments
           (done_metered {U = Unit {0}} {E = Why} {T = Unit {0}} {F = KeepFault} swap_calls (g.B.Banks.meter was.banks) (g.B.Banks.meter now.banks) tt tt why.Device keep.Device

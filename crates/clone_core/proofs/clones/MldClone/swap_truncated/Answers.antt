@@ -19,7 +19,6 @@ use Rattle.clone_parts.specs.declared.faults.KeepFault.TheVariants as keep
 use Rattle.clone_core.proofs.AppendLaws.{swapped_on_banks, refused_on_banks}
 use Rattle.clone_core.proofs.DurableLaws.{changes_none, changes_made, done_metered, keep_tells, swap_refused}
 use Rattle.clone_core.proofs.StopLaws.{keep_stops}
-use Rattle.mld_ops.specs.declared.tagged.Tagged.{Tagged}
 use Rattle.mld_ops.specs.Entry.{EntryValue}
 use Rattle.mld_model.specs.Local.{LocalClone, IsLocal, LeadsTo, LocallyTruncates}
 use Rattle.clone_core.specs.Banked.{BankedClone, head_over}
@@ -30,7 +29,7 @@ pub led_to-requires-clause-ready : goal.led_to-requires-clause-ready
 led_to-requires-clause-ready g c =
     let old = local_of c.self.inside in
     let cut = c.len.result - c.args.keep in
-    subst (λ (es : List EntryValue). AreReadyEntries old.base (take cut es)) (sym c.deref-2.ensures.value) (front_ready old cut c.self.invariant.0)
+    subst (λ (es : List EntryValue). AreReadyEntries old.base (take cut es)) (sym c.deref.ensures.value) (front_ready old cut c.self.invariant.0)
 
 pub swap_kept-requires-clause-left : goal.swap_kept-requires-clause-left
 swap_kept-requires-clause-left g c = λ last. c.requires.due.left (sym (ap (λ v. v.generation) c.self.view_is) ∙ last)
@@ -42,14 +41,13 @@ swap_kept-requires-clause-ready g c =
     let cut = c.len.result - keep in
     let count : cut ≡ length old.entries - keep = omega (arith, c.len.ensures) in
     let base = c.in_ok-base.base.ticks in
-    let pairs = c.in_ok-base.pairs.items in
+    let pairs = c.in_ok-base.pairs in
     let leads = subst (λ (n : ℕ). LeadsTo old.base old.base_pairs (take n old.entries) base pairs) count
-    (subst (λ (es : List EntryValue). LeadsTo old.base old.base_pairs (take cut es) base pairs) c.deref-2.ensures.value
-    (subst (λ (ps : List Tagged). LeadsTo old.base ps (take cut c.deref-2.result.now) base pairs) c.deref.ensures.value c.in_ok-base.ensures.leads)) in
+    (subst (λ (es : List EntryValue). LeadsTo old.base old.base_pairs (take cut es) base pairs) c.deref.ensures.value c.in_ok-base.ensures.leads) in
     let local = cut_is_local old keep base pairs leads c.self.invariant.0 c.in_ok-base.ensures.covered c.tell_clock.ensures c.in_ok-base.ensures.clock in
     let same : c.in_ok-head.head.base.ticks ≡ base = ap (λ (h : HeadValue). h.base.ticks) c.in_ok-head.ensures in
-    let rest = take_rest c.deref-3.result.now cut ∙ ap (λ (es : List EntryValue). drop cut es) c.deref-3.ensures.value ∙ ap (λ (n : ℕ). drop n old.entries) count in
-    subst (λ (ts : List (List ℕ × ℕ)). AreReadyEntries ts (take (length c.deref-3.result.now - cut) (drop cut c.deref-3.result.now))) (sym same)
+    let rest = take_rest c.deref-2.result.now cut ∙ ap (λ (es : List EntryValue). drop cut es) c.deref-2.ensures.value ∙ ap (λ (n : ℕ). drop n old.entries) count in
+    subst (λ (ts : List (List ℕ × ℕ)). AreReadyEntries ts (take (length c.deref-2.result.now - cut) (drop cut c.deref-2.result.now))) (sym same)
     (subst (λ (es : List EntryValue). AreReadyEntries base es) (sym rest) (rest_ready old keep base pairs leads local))
 
 pub returns-in_err-base-clause-durable : goal.returns-in_err-base-clause-durable
@@ -91,13 +89,12 @@ returns-in_err-swap_kept-clause-durable g c =
     let cut = c.len.result - keep_count in
     let count : cut ≡ length old.entries - keep_count = omega (arith, c.len.ensures) in
     let base = c.in_ok-base.base.ticks in
-    let pairs = c.in_ok-base.pairs.items in
+    let pairs = c.in_ok-base.pairs in
     let head = head_value c.in_ok-head.head in
     let leads = subst (λ (n : ℕ). LeadsTo old.base old.base_pairs (take n old.entries) base pairs) count
-    (subst (λ (es : List EntryValue). LeadsTo old.base old.base_pairs (take cut es) base pairs) c.deref-2.ensures.value
-    (subst (λ (ps : List Tagged). LeadsTo old.base ps (take cut c.deref-2.result.now) base pairs) c.deref.ensures.value c.in_ok-base.ensures.leads)) in
-    let rest = take_rest c.deref-3.result.now cut ∙ ap (λ (es : List EntryValue). drop cut es) c.deref-3.ensures.value ∙ ap (λ (n : ℕ). drop n old.entries) count in
-    let entries = take (length c.deref-3.result.now - cut) (drop cut c.deref-3.result.now) in
+    (subst (λ (es : List EntryValue). LeadsTo old.base old.base_pairs (take cut es) base pairs) c.deref.ensures.value c.in_ok-base.ensures.leads) in
+    let rest = take_rest c.deref-2.result.now cut ∙ ap (λ (es : List EntryValue). drop cut es) c.deref-2.ensures.value ∙ ap (λ (n : ℕ). drop n old.entries) count in
+    let entries = take (length c.deref-2.result.now - cut) (drop cut c.deref-2.result.now) in
     let told = c.in_err-swap_kept.field-0.0 in
     let p = err_from_is_err_and c.from_residual-in_err-swap_kept.result c.from_residual-in_err-swap_kept.ensures.1 in
     let head_is : head ≡ head_over old base pairs = c.in_ok-head.ensures ∙ sym (ap (λ (v : BankedClone _). head_over v.local base pairs) c.self.view_is) in
@@ -118,17 +115,16 @@ returns-clause-durable g c =
     let cut = c.len.result - keep_count in
     let count : cut ≡ length old.entries - keep_count = omega (arith, c.len.ensures) in
     let base = c.in_ok-base.base.ticks in
-    let pairs = c.in_ok-base.pairs.items in
+    let pairs = c.in_ok-base.pairs in
     let head = head_value c.in_ok-head.head in
     let leads = subst (λ (n : ℕ). LeadsTo old.base old.base_pairs (take n old.entries) base pairs) count
-    (subst (λ (es : List EntryValue). LeadsTo old.base old.base_pairs (take cut es) base pairs) c.deref-2.ensures.value
-    (subst (λ (ps : List Tagged). LeadsTo old.base ps (take cut c.deref-2.result.now) base pairs) c.deref.ensures.value c.in_ok-base.ensures.leads)) in
-    let rest = take_rest c.deref-3.result.now cut ∙ ap (λ (es : List EntryValue). drop cut es) c.deref-3.ensures.value ∙ ap (λ (n : ℕ). drop n old.entries) count in
-    let entries = take (length c.deref-3.result.now - cut) (drop cut c.deref-3.result.now) in
+    (subst (λ (es : List EntryValue). LeadsTo old.base old.base_pairs (take cut es) base pairs) c.deref.ensures.value c.in_ok-base.ensures.leads) in
+    let rest = take_rest c.deref-2.result.now cut ∙ ap (λ (es : List EntryValue). drop cut es) c.deref-2.ensures.value ∙ ap (λ (n : ℕ). drop n old.entries) count in
+    let entries = take (length c.deref-2.result.now - cut) (drop cut c.deref-2.result.now) in
     let base_is : c.replace_base.new.base.ticks ≡ base = c.replace_base.ensures.base ∙ ap (λ (h : HeadValue). h.base.ticks) c.in_ok-head.ensures in
-    let pairs_are : c.replace_base.new.pairs.items ≡ pairs = c.replace_base.ensures.pairs ∙ ap (λ (h : HeadValue). h.base.pairs) c.in_ok-head.ensures in
+    let pairs_are : c.replace_base.new.pairs ≡ pairs = c.replace_base.ensures.pairs ∙ ap (λ (h : HeadValue). h.base.pairs) c.in_ok-head.ensures in
     let dropped : c.drop_front.new.entries.items ≡ drop (length old.entries - keep_count) old.entries = c.drop_front.ensures ∙ ap (λ (n : ℕ). drop n old.entries) count in
-    let head_is : head ≡ head_over old c.replace_base.new.base.ticks c.replace_base.new.pairs.items =
+    let head_is : head ≡ head_over old c.replace_base.new.base.ticks c.replace_base.new.pairs =
     c.in_ok-head.ensures ∙ sym (ap (λ (v : BankedClone _). head_over v.local base pairs) c.self.view_is) ∙ (λ i. head_over old (sym base_is i) (sym pairs_are i)) in
     let left = rest ∙ sym dropped in
     let step = Swapped head entries in (
@@ -149,20 +145,19 @@ invariant_of-self-2 g c =
     let cut = c.len.result - keep in
     let count : cut ≡ length old.entries - keep = omega (arith, c.len.ensures) in
     let base = c.in_ok-base.base.ticks in
-    let pairs = c.in_ok-base.pairs.items in
+    let pairs = c.in_ok-base.pairs in
     let head = head_value c.in_ok-head.head in
     let leads = subst (λ (n : ℕ). LeadsTo old.base old.base_pairs (take n old.entries) base pairs) count
-    (subst (λ (es : List EntryValue). LeadsTo old.base old.base_pairs (take cut es) base pairs) c.deref-2.ensures.value
-    (subst (λ (ps : List Tagged). LeadsTo old.base ps (take cut c.deref-2.result.now) base pairs) c.deref.ensures.value c.in_ok-base.ensures.leads)) in
+    (subst (λ (es : List EntryValue). LeadsTo old.base old.base_pairs (take cut es) base pairs) c.deref.ensures.value c.in_ok-base.ensures.leads) in
     let local = cut_is_local old keep base pairs leads c.self.invariant.0 c.in_ok-base.ensures.covered c.tell_clock.ensures c.in_ok-base.ensures.clock in
-    let new = record old { base = c.replace_base.new.base.ticks; base_pairs = c.replace_base.new.pairs.items; entries = c.drop_front.new.entries.items } in
+    let new = record old { base = c.replace_base.new.base.ticks; base_pairs = c.replace_base.new.pairs; entries = c.drop_front.new.entries.items } in
     let base_is : c.replace_base.new.base.ticks ≡ base = c.replace_base.ensures.base ∙ ap (λ (h : HeadValue). h.base.ticks) c.in_ok-head.ensures in
-    let pairs_are : c.replace_base.new.pairs.items ≡ pairs = c.replace_base.ensures.pairs ∙ ap (λ (h : HeadValue). h.base.pairs) c.in_ok-head.ensures in
+    let pairs_are : c.replace_base.new.pairs ≡ pairs = c.replace_base.ensures.pairs ∙ ap (λ (h : HeadValue). h.base.pairs) c.in_ok-head.ensures in
     let dropped : c.drop_front.new.entries.items ≡ drop (length old.entries - keep) old.entries = c.drop_front.ensures ∙ ap (λ (n : ℕ). drop n old.entries) count in
     let same : cut_clone old keep base pairs leads ≡ new = λ i. record old { base = sym base_is i; base_pairs = sym pairs_are i; entries = sym dropped i } in
     let head_is : head ≡ head_over old new.base new.base_pairs = c.in_ok-head.ensures ∙ sym (ap (λ (v : BankedClone _). head_over v.local base pairs) c.self.view_is)
     ∙ (λ i. head_over old (sym base_is i) (sym pairs_are i)) in
-    let rest = take_rest c.deref-3.result.now cut ∙ ap (λ (es : List EntryValue). drop cut es) c.deref-3.ensures.value ∙ sym c.drop_front.ensures in
+    let rest = take_rest c.deref-2.result.now cut ∙ ap (λ (es : List EntryValue). drop cut es) c.deref-2.ensures.value ∙ sym c.drop_front.ensures in
     let keeps = λ (kept : Kept) (k : KeptBy (g.B.Banks.log was.banks) was.closed kept).
     subst (λ (es : List EntryValue). KeepsNow (swapped head es kept) (g.B.Banks.log now.banks)) rest (c.in_ok-swap_kept.ensures.kept kept k) in (
       subst (λ (clone : LocalClone). IsLocal clone) same local,

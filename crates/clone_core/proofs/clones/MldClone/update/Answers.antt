@@ -10,7 +10,7 @@ use Rattle.clone_core.specs.CallParts.{StopsClone}
 use Rattle.clone_core.specs.CloneClosing.{LeavesClone, update_stop}
 use Rattle.clone_core.specs.CloneUpdates.{IsDueUpdate, IsMakeable, LocallyUpdates, LocallyUpdatesBy, RefusesUpdate}
 use Rattle.clone_core.proofs.DurableLaws.{changes_none, effect_steps, planned_steps}
-use Rattle.clone_core.proofs.OwnUpdates.{has_effect, updates_plan, stopped_refuses, effect_refuses, effect_leaves, is_makeable, breaks_single}
+use Rattle.clone_core.proofs.OwnUpdates.{has_effect, tick_left, updates_plan, stopped_refuses, effect_refuses, effect_leaves, is_makeable, breaks_single}
 use Rattle.clone_core.proofs.StopLaws.{stops_leave}
 use Rattle.clone_core.proofs.clones.MldClone.update.Goals as goal
 
@@ -106,12 +106,13 @@ returns-clause-left g c =
     let effect = c.in_ok-effect.effect in
     let has = has_effect old plan c.domain.result.now c.path-path.result c.known.result.now.ticks c.ticks-tick.result c.pairs.result.now.pairs effect
     c.domain.ensures.domain c.path-path.ensures c.known.ensures.ticks c.ticks-tick.ensures.value c.pairs.ensures.pairs c.in_ok-effect.ensures.effect in
+    let left = tick_left old c.path-path.result c.known.result.now.ticks c.ticks-tick.result c.path-path.ensures c.known.ensures.ticks c.ticks-tick.ensures.value c.if-tick.false in
     let clone = c.args.self.now in
     let new = c.make_by.new.self in
     IfErr-weaker c.make_by.result (λ fault. StopsClone g.B.Banks.log g.B.Banks.meter (IsMakeable old effect) ⊥ clone new (update_stop fault))
     (λ fault. LeavesClone g.B.Banks.log g.B.Banks.meter (IsDueUpdate old plan) ⊥ clone new (update_stop fault))
     (λ fault h. stops_leave g.B.Banks.log g.B.Banks.meter (IsMakeable old effect) (IsDueUpdate old plan) clone new (update_stop fault)
-    (λ may. record { effect = effect; has = has; may = may }) h) c.make_by.ensures.err
+    (λ may. record { left = left; effect = effect; has = has; may = may }) h) c.make_by.ensures.err
 
 pub returns-clause-durable : goal.returns-clause-durable
 returns-clause-durable g c =
@@ -123,5 +124,6 @@ returns-clause-durable g c =
     let some : ¬ ChangesNothing effect = λ h. false≢true (sym c.if-is_empty.false ∙ c.is_empty.ensures.1 h) in
     let may = is_makeable old plan effect has some c.properties.result.now c.pairs-2.result.now.pairs c.properties.ensures.properties c.pairs-2.ensures.pairs
     (rw c.in_default-2.is at c.in_ok-s.ensures.none) in
+    let left = tick_left old c.path-path.result c.known.result.now.ticks c.ticks-tick.result c.path-path.ensures c.known.ensures.ticks c.ticks-tick.ensures.value c.if-tick.false in
     let made = c.make_by.ensures.durable in
-    (made.0, planned_steps old plan effect has may c.make_by.result made.0 made.1, made.2)
+    (made.0, planned_steps old plan effect left has may c.make_by.result made.0 made.1, made.2)
