@@ -28,12 +28,12 @@ use Rattle.mld_replay.specs.Stops.{fault_at_line, FaultLeaves}
 use Rattle.mld_replay.specs.ReplayUnderWay.{IsReplayUnderWay}
 use Rattle.input_lines.specs.TooLarge.{BreaksLimits}
 use Rattle.input_lines.specs.Taken.{TakesLine, IsLeft, KnowsEnd}
-use Rattle.input_lines.specs.HowFar.{IsBrokenOff, ReadsJust, ReadsInto, ReadsToNext, MeetsTooLarge}
+use Rattle.input_lines.specs.HowFar.{IsCutPast, IsBrokenOff, ReadsJust, ReadsInto, ReadsToNext, MeetsTooLarge}
 use Rattle.input_lines.specs.InputFaults.{HasReadCause}
 use Rattle.input_lines.specs.declared.faults.InputFault.{InputFault}
 use Rattle.input_lines.specs.declared.faults.InputFault.TheVariants as inputs
-use Rattle.input_lines.proofs.TakenLemmas.{left_first, taken_left, all_fit, large_next, takes_some}
-use Rattle.input_lines.proofs.HowFarLemmas.{just_done, just_all, few_behind, into_next}
+use Rattle.input_lines.proofs.TakenLemmas.{left_first, taken_left, all_fit, takes_some}
+use Rattle.input_lines.proofs.HowFarLemmas.{just_done, just_all, meets_large, into_next}
 
 -- a run goes on by one line
 runs_more : (stage middle next : Stage) (lines : List (List ℕ)) (text line more : List ℕ) → Runs stage lines text middle → Acts middle line more next
@@ -306,15 +306,12 @@ stops_bad log given left rest before now size grown running done line way takes 
 
 -- the line of the number is too large
 pub stops_large : {B : Type 0} (log : B → Option Log) (given left rest before now : Option (List ℕ)) (size : ℕ) (running : RunningStage B) (done number : ℕ) (fault : InputFault) → IsReplayUnderWay log given left before now size running done
-    → number ≡ done + 1 → ((bytes : List ℕ) → left ≡ Some bytes → BreaksLimits size bytes) → ((bytes : List ℕ) → left ≡ Some bytes → IsBrokenOff size fault bytes rest)
+    → fault ≡ inputs.TooLarge number → number ≡ done + 1 → ((bytes : List ℕ) → left ≡ Some bytes → BreaksLimits size bytes) → ((bytes : List ℕ) → left ≡ Some bytes → IsBrokenOff size fault bytes rest)
     → (bytes : List ℕ) → given ≡ Some bytes → StopsAtLarge (StageStands log running) bytes number rest before now
-stops_large log given left rest before now size running done number fault way counts breaks broken bytes is =
+stops_large log given left rest before now size running done number fault way large counts breaks broken bytes is =
     let at : IsLeft bytes left size done way.lines = way.left_of bytes is in
-    let meets : MeetsTooLarge bytes rest done = record {
-      fits = at.fits;
-      large = large_next bytes left size done way.lines at (breaks at.rest at.is);
-      few = few_behind bytes left rest size done way.lines fault at (broken at.rest at.is);
-    } in
+    let cut : IsCutPast size at.rest rest = subst (λ (f : InputFault). IsBrokenOff size f at.rest rest) large (broken at.rest at.is) in
+    let meets : MeetsTooLarge bytes rest done = meets_large bytes left rest size done way.lines at (breaks at.rest at.is) cut in
     record {
       text = way.text;
       stage = way.stage;

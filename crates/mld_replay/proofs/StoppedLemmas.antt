@@ -28,7 +28,7 @@ use Rattle.net_world.specs.SettledWorlds.{AllImagesStand, AreBlank}
 use Rattle.net_world.proofs.DeviceLemmas.{device_needs}
 use Rattle.net_world.proofs.SettledBanks.{nothing_left}
 use Rattle.net_world.proofs.SettledSteps.{number_within}
-use Rattle.mld_replay.specs.BanksLeft.{AllReadNone, IsDueAt, StandsInCommand, AllStandInCommand, AreLeftAmid, left_blank, left_between, left_in_command, FailsAmid, fails_founding, fails_in_command}
+use Rattle.mld_replay.specs.BanksLeft.{AllReadNone, IsFoundingDueAt, StandsInCommand, AllStandInCommand, AreLeftAmid, left_blank, left_between, left_in_command, FailsAmid, fails_founding, fails_in_command}
 use Rattle.mld_replay.specs.Stages.{StageStands, SpellsAt, LeavesRefusedCommand, EndsWell, banks_of_stage}
 use Rattle.mld_replay.specs.Stops.{fault_at_line, stop_of, stop_of_world, LeavesAtStop, StopLeaves, LeavesAtFault}
 use Rattle.mld_replay.specs.declared.stages.Stage.{Stage as RunningStage}
@@ -170,18 +170,18 @@ module _ {B : Type 0} (log : B → Option Log) where
 
   -- ---- founding was refused
 
-  pub founding_left : (setup : Setup) (banks : List B) (fault : WorldFault) (lines : List (List ℕ)) → LeavesFounded log (setup_of setup) fault banks → IsDueAt (SetUp (setup_of setup)) lines
+  pub founding_left : (setup : Setup) (banks : List B) (fault : WorldFault) (lines : List (List ℕ)) → LeavesFounded log (setup_of setup) fault banks → IsFoundingDueAt (SetUp (setup_of setup)) lines
       → LeavesAtStop log banks (SetUp (setup_of setup)) lines (stop_of_world fault)
   founding_left setup banks (worlds.Device clone) lines left due = fails_founding due left
   founding_left setup banks worlds.NoMemory lines left due = inl left
 
 -- it is due at a command, and at the end of the lines
-pub due_by : (stage : Stage) (line : List ℕ) (rest : List (List ℕ)) (command : Command) → SpellsAt stage line command → IsDueAt stage (line ∷ rest)
+pub due_by : (stage : Stage) (line : List ℕ) (rest : List (List ℕ)) (command : Command) → SpellsAt stage line command → IsFoundingDueAt stage (line ∷ rest)
 due_by Waiting line rest command spells = tt
 due_by (SetUp setup) line rest command spells = (command, spells)
 due_by (Running world) line rest command spells = tt
 
-pub due_at_end : (stage : Stage) → IsDueAt stage []
+pub due_at_end : (stage : Stage) → IsFoundingDueAt stage []
 due_at_end Waiting = tt
 due_at_end (SetUp setup) = tt
 due_at_end (Running world) = tt

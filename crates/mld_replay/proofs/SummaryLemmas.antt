@@ -17,7 +17,7 @@ use Rattle.mld_replay.specs.Looking.{AreEmpty, StopsLooking, StopsBlanking}
 use Rattle.mld_replay.specs.Ran.{Finishes, StopsAtBad, StopsAtLarge, BreaksOff, WritesFront, WritesWhole, WritesSome, Saying, FailsSo, fails_before, fails_amid, RunsShort, short_before, short_amid, short_writing, short_of_banks, ReplayEnds, says_of, Agrees, LeavesAlone, CountsReads, CountsWrites, tells}
 use Rattle.input_lines.specs.HowFar.{ReadsJust, ReadsInto, ReadsToNext, MeetsTooLarge, IsReadWithin}
 use Rattle.input_lines.specs.Untouched.{AreUntouched, HasNotBegun}
-use Rattle.input_lines.proofs.HowFarLemmas.{just_whole, into_first, within_just, within_few}
+use Rattle.input_lines.proofs.HowFarLemmas.{just_whole, into_first, within_just, within_into, within_large}
 use Rattle.mld_replay.specs.BanksLeft.{AreLeftAmid, FailsAmid}
 use Rattle.mld_replay.specs.Replaying.{EndsByFault, says_by, IsReplayFault}
 use Rattle.mld_replay.specs.Stages.{StageStands, banks_of_stage}
@@ -173,9 +173,9 @@ some_of_end says (Some (faults.NotEmpty clone)) bytes left before now ends = som
 -- so it was no more than an input may have, and one byte
 
 within_next : (bytes : List ℕ) (left : Option (List ℕ)) (lines : ℕ) → ReadsToNext bytes left lines ⊎ MeetsTooLarge bytes left lines → IsReadWithin bytes left
-within_next bytes left lines (inl (inl into)) = within_few bytes left lines into.few
+within_next bytes left lines (inl (inl into)) = within_into bytes left lines into
 within_next bytes left lines (inl (inr just)) = within_just bytes left (lines + 1) just
-within_next bytes left lines (inr meets) = within_few bytes left lines meets.few
+within_next bytes left lines (inr meets) = within_large bytes left lines meets
 
 pub within_some : (bytes : List ℕ) (left before now : Option (List ℕ)) → WritesSome bytes left before now → IsReadWithin bytes left
 within_some bytes left before now (inl whole) = within_next bytes left (length whole.lines) whole.read

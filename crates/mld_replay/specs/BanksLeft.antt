@@ -41,10 +41,10 @@ IsFoundingDue setup [] = Unit {0}
 IsFoundingDue setup (line ∷ rest) = (command : Command) × SpellsCommand setup.domain line command
 
 -- so it is, if the stage founds any
-abbrev pub IsDueAt : Stage → List (List ℕ) → Type 0
-IsDueAt Waiting lines = Unit {0}
-IsDueAt (SetUp setup) lines = IsFoundingDue setup lines
-IsDueAt (Running world) lines = Unit {0}
+abbrev pub IsFoundingDueAt : Stage → List (List ℕ) → Type 0
+IsFoundingDueAt Waiting lines = Unit {0}
+IsFoundingDueAt (SetUp setup) lines = IsFoundingDue setup lines
+IsFoundingDueAt (Running world) lines = Unit {0}
 
 -- sides stand for what the clone of the number keeps in the world, or, where the command is done at that clone, for what it keeps after some
 -- front of the durable steps of the command

@@ -56,8 +56,8 @@ pub record StopsAtBad (P : Stage → Type 0) (bytes : List ℕ) (number : ℕ) (
   pub written : Appends before after text
   pub holds : P stage
 
--- the line of the number is the first that is too large, the lines before it are a run, and their text was written; with the bytes
--- behind them that were read it is no more than an input may have, and one; and this holds of the stage that they led to
+-- the line of the number is the first that is too large, the lines before it are a run, and their text was written; nothing was read
+-- behind the byte that makes it too large; and this holds of the stage that they led to
 pub record StopsAtLarge (P : Stage → Type 0) (bytes : List ℕ) (number : ℕ) (left before after : Option (List ℕ)) : Type 0 where
   pub text : List ℕ
   pub stage : Stage
@@ -67,7 +67,7 @@ pub record StopsAtLarge (P : Stage → Type 0) (bytes : List ℕ) (number : ℕ)
   pub holds : P stage
 
 -- the lines done are those whose LF was read, none of them is too large, and their text was written; of the bytes behind them
--- a part of one line was read; and this holds of the stage that they led to
+-- a part of one line was read, which isn't too large so far; and this holds of the stage that they led to
 pub record BreaksOff (P : Stage → Type 0) (bytes : List ℕ) (left before after : Option (List ℕ)) : Type 0 where
   pub lines : ℕ
   pub read : ReadsInto bytes left lines
@@ -110,7 +110,7 @@ pub record WritesWhole (P : Stage → List (List ℕ) → Type 0) (Read : ℕ �
   pub written : Appends before after text
   pub holds : P stage rest
 
--- one or the other, whatever holds; of the line behind those done no more was read than all of it, or it is too large
+-- one or the other, whatever holds; of the line behind those done no more was read than all of it, also where it is too large
 abbrev pub WritesSome : List ℕ → Option (List ℕ) → Option (List ℕ) → Option (List ℕ) → Type 0
 WritesSome bytes left before after =
     WritesWhole (λ stage rest. Unit {0}) (λ lines. ReadsToNext bytes left lines ⊎ MeetsTooLarge bytes left lines) bytes before after

@@ -1,4 +1,4 @@
--- What a run tells of the world that it ends with: `says_of` says it for `run`, and `end_of` and `summary_of` cite it.
+-- What a run tells of the world that it ends with: `says_of` says it for `run`, and `end_of` and `end_of_world` cite it.
 use Rattle.std.specs.Prelude.{Option, None, Some}
 use Rattle.schedule_text.specs.schedule_model.Runs.{Stage, Waiting, SetUp, Running}
 use Rattle.net_world.specs.declared.summaries.Summary.{Summary}

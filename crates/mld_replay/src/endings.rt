@@ -79,26 +79,14 @@ fn end_of_world<B: CrashBanks>(
     ensures kept { (model : ModelWorld) → StandsOnBanks B.log world model
         → IfOk result (λ end. AllBanksStandFor B.log model end.banks.items) }
 {
-    let summary = summary_of(alloc, told, &world)?;
-    Ok(End {
-        world: summary,
-        banks: world.into_banks(alloc)?,
-    })
-}
-
-/// What there is to tell of a world, where that has to be told.
-fn summary_of<B: CrashBanks>(
-    alloc: Global,
-    told: bool,
-    world: &World<B>,
-) -> Result<Option<Summary>, AllocError>
-    ensures tells { IsTrue told → (model : ModelWorld) → StandsOnBanks B.log world.now model → IsSound model
-        → IfOk result (λ summary. TellsOf summary (Running model)) }
-    ensures silent { ¬ IsTrue told → IfOk result (λ summary. summary ≡ None) }
-{
     if told {
-        Ok(Some(world.summary(alloc)?))
+        let (summary, banks) = world.into_summary(alloc)?;
+        Ok(End {
+            world: Some(summary),
+            banks,
+        })
     } else {
-        Ok(None)
+        let banks = world.into_banks(alloc)?;
+        Ok(End { world: None, banks })
     }
 }

@@ -105,7 +105,7 @@ pub fn run<R: Threads + Sync, S: Source, K: Sink, B: CrashBanks>(
     // the run. 5: the banks are so too, or as at 3, or none come back.
     //
     // Of the source just these lines were read: at 4 those up to the bad one, at 3 and 6 those up to the one under way. At 2 those done were,
-    // and a part of one more; at 7 those done, and no more than up to byte 16,777,217 in all. 5: one of these.
+    // and a part of one more, which isn't too large so far; at 7 those done, and the next up to the byte that makes it too large. 5: one of these.
     ensures ends { IsReplay (texts_of words.now.items) → WhereTold (S.left source.old) (λ bytes.
         ReplayEnds (says_of B.log banks.items result) result.fault bytes
         (S.left source.new) (K.held sink.old) (K.held sink.new)) }

@@ -8,7 +8,7 @@ ghost use Rattle.schedule_text.specs.schedule_model.Step.{HasCloneNumbers, IsCom
 ghost use Rattle.net_world.specs.world_commands.Worlds.{IsStanding, Stepped};
 ghost use Rattle.schedule_text.specs.schedule_model.WorldStep.{step_limit};
 ghost use Rattle.mld_replay.specs.BankFaults.{ComeBackWell};
-ghost use Rattle.mld_replay.specs.BanksLeft.{IsDueAt};
+ghost use Rattle.mld_replay.specs.BanksLeft.{IsFoundingDueAt};
 ghost use Rattle.mld_replay.specs.Stops.{StopBringsBack, StopLeaves, StopLeavesAtLine, LeavesAtStop};
 ghost use Rattle.net_world.specs.SettledWorlds.{SettlesWorld};
 ghost use Rattle.mld_replay.specs.Stages.{StageStands, SpellsAt, IsStandingStage, IsSetUpState, GetsProperty, GetsNone, IsWorldStop, LeavesRefusedCommand, steps_of_stage, banks_of_stage, ActsWell, ActsFrom, EndsFrom, IsBadFrom, OnlyWaits};
@@ -237,7 +237,7 @@ fn found<R: Threads + Sync, B: CrashBanks>(
     ensures well { IfOk result (λ world. ComeBackWell B.meter (banks_of_stage stage.old) (banks_of world)) }
     ensures back { IfErr result (StopBringsBack B.meter (banks_of_stage stage.old) (banks_of_stage stage.new)) }
     ensures left { IfErr result (λ stop. (lines : List (List ℕ)) (model : ModelStage)
-        → StageStands B.log stage.old model → IsDueAt model lines
+        → StageStands B.log stage.old model → IsFoundingDueAt model lines
         → LeavesAtStop B.log (banks_of_stage stage.new) model lines stop) }
     ensures other { IfErr result IsWorldStop }
 {

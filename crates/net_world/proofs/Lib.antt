@@ -16,4 +16,3 @@ pub mod SettledBanks
 pub mod FoundingFronts
 pub mod SettledSteps
 pub mod SummaryLaws
-pub mod SummaryLemmas

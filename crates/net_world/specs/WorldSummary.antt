@@ -1,5 +1,5 @@
 -- What a run tells of its world.
-use Rattle.std.specs.Prelude.{◌≡◌, ◌↔◌, List, [], ◌∷◌, None, Some}
+use Rattle.std.specs.Prelude.{◌≡◌, ◌↔◌, List, [], ◌∷◌, ◌++◌, None, Some}
 use Rattle.tree_clock.specs.declared.dots.Dot.{Dot}
 use Rattle.tree_clock.specs.Dot.{Knows}
 use Rattle.tree_clock.specs.Clock.{IsClock, Covers}
@@ -52,6 +52,16 @@ TellsOfClones history [] [] = Unit {0}
 TellsOfClones history (clone ∷ clones) (summary ∷ summaries) = TellsOfClone history clone summary × TellsOfClones history clones summaries
 TellsOfClones history clones summaries = ⊥
 
+-- what is told of a clone as it runs, beside its pairs
+pub record TellsBesidePairs (live : LocalClone) (summary : CloneSummary) : Type 0 where
+  pub state : summary.state ≡ states.Live
+  pub path : summary.path ≡ Some live.path
+  pub clock : IsClock live.ticks
+  pub known : summary.known.items ≡ live.ticks
+  pub base_clock : IsClock live.base
+  pub base : summary.base.items ≡ live.base
+  pub journal : summary.journal.items ≡ ranges_of live.entries
+
 -- what is told of a clone as it runs
 pub record IsSummaryOf (live : LocalClone) (summary : CloneSummary) : Type 0 where
   pub state : summary.state ≡ states.Live
@@ -75,6 +85,12 @@ abbrev pub SummarizesAll : List RunningClone → List CloneSummary → Type 0
 SummarizesAll [] [] = Unit {0}
 SummarizesAll (clone ∷ clones) (summary ∷ summaries) = Summarizes clone summary × SummarizesAll clones summaries
 SummarizesAll clones summaries = ⊥
+
+-- a clone is told of behind others
+pub record TellsNext (clone : RunningClone) (before after : List CloneSummary) : Type 0 where
+  pub summary : CloneSummary
+  pub grows : after ≡ before ++ summary ∷ []
+  pub told : Summarizes clone summary
 
 -- what is told of a world as it runs is told of each sound world of the model that it stands for
 abbrev pub Tells : RunningWorld → Summary → Type 0

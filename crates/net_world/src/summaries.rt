@@ -1,7 +1,9 @@
 //! What a run tells of the clones of its world.
-ghost use Rattle.std.specs.Prelude.{◌≡◌, IfOk};
+ghost use Rattle.std.specs.Prelude.{◌≡◌, None, Some, IfOk};
+ghost use Rattle.mld_io.specs.Disk.{Log};
 ghost use Rattle.mld_ops.specs.Held.{ranges_of};
-ghost use Rattle.net_world.specs.WorldSummary.{IsBlank, IsSummaryOf};
+ghost use Rattle.clone_core.specs.Banked.{KeepsClone};
+ghost use Rattle.net_world.specs.WorldSummary.{IsBlank, TellsBesidePairs, IsSummaryOf};
 ghost use Rattle.net_world.specs.declared.summaries.State.{State};
 
 use clone_core::MldClone;
@@ -47,19 +49,30 @@ pub struct Summary {
     pub clones: Vec<CloneSummary>,
 }
 
-/// What there is to tell of a live clone.
+/// What there is to tell of a live clone, out of which its pairs are moved; and its banks, as `MldClone::stop` gives them.
 ///
 /// # Errors
 ///
-/// `AllocError` where memory is wanting.
+/// `AllocError` where memory is wanting; the clone and its banks are let go then.
 pub fn summary_of_live<B: Banks>(
     alloc: Global,
-    clone: &MldClone<B>,
-) -> Result<CloneSummary, AllocError>
-    ensures { IfOk result (IsSummaryOf clone.now.local) }
+    clone: MldClone<B>,
+) -> Result<(CloneSummary, B), AllocError>
+    ensures tells { IfOk result (λ told. IsSummaryOf clone.local told.0) }
+    ensures banks { IfOk result (λ told. told.1 ≡ clone.banks) }
+    ensures kept { clone.closed ≡ None → IfOk result (λ told. (log : Log) → B.log told.1 ≡ Some log
+        → KeepsClone clone.local clone.generation log) }
 {
-    // The pairs come first: what their order takes is let go before the other lists are made.
-    let tagged = clone.tagged(alloc)?;
+    let mut summary = without_pairs(alloc, &clone)?;
+    let (tagged, banks) = clone.into_tagged(alloc)?;
+    summary.tagged = tagged;
+    Ok((summary, banks))
+}
+
+/// What there is to tell of a live clone but for its pairs.
+fn without_pairs<B: Banks>(alloc: Global, clone: &MldClone<B>) -> Result<CloneSummary, AllocError>
+    ensures { IfOk result (TellsBesidePairs clone.now.local) }
+{
     let known = clone.known().to_list(alloc)?;
     let base = clone.base().to_list(alloc)?;
     let journal = ranges_of(alloc, clone.journal())?;
@@ -69,7 +82,7 @@ pub fn summary_of_live<B: Banks>(
         known,
         base,
         journal,
-        tagged,
+        tagged: Vec::new(alloc),
     })
 }
 

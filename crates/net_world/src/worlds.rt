@@ -4,7 +4,7 @@ use crate::commands::answer;
 use crate::founding::found_clones;
 use crate::settling::{ask_live, number_of};
 use crate::summaries::Summary;
-use crate::summarizing::summarize;
+use crate::summarizing::{clones_of, summarize};
 use clone_core::journal_store::Blank;
 use mld_io::{Banks, CrashBanks};
 use mld_ops::kept_properties;
@@ -109,11 +109,16 @@ impl<B: CrashBanks> World<B> {
         self.parts.domain.as_str()
     }
 
-    /// What there is to tell of the world: of each world of the model that it stands for.
-    pub fn summary(&self, alloc: Global) -> Result<Summary, AllocError>
-        ensures { IfOk result (Tells (memory_of self.now)) }
+    /// What there is to tell of the world, of each world of the model that it stands for; and the banks of the clones, by number: live
+    /// ones stop. They stand for the world. The messages are let go first, and the pairs are moved out of the clones, one after another.
+    pub fn into_summary(self, alloc: Global) -> Result<(Summary, Vec<B>), AllocError>
+        ensures tells { IfOk result (λ told. Tells (memory_of self) told.0) }
+        ensures banks { IfOk result (λ told. told.1.items ≡ banks_of self) }
+        ensures stand { (world : ModelWorld) → StandsOnBanks B.log self world
+            → IfOk result (λ told. AllBanksStandFor B.log world told.1.items) }
     {
-        summarize(alloc, self.parts.clones.as_slice())
+        let (summary, banks) = summarize(alloc, clones_of(self.parts))?;
+        Ok((summary, banks))
     }
 
     /// The banks of the clones, by number: live ones stop. They stand for the world.

@@ -8,8 +8,8 @@ use Rattle.input_lines.specs.declared.faults.InputFault.TheVariants as inputs
 use Rattle.input_lines.specs.TooLarge.{BreaksLimits}
 use Rattle.input_lines.specs.Taken.{WhereTold, TakesLine, IsLeft, KnowsEnd}
 use Rattle.input_lines.specs.HowFar.{IsBrokenOff, IsReadWithin}
-use Rattle.input_lines.proofs.TakenLemmas.{left_first, taken_left, all_fit, large_next}
-use Rattle.input_lines.proofs.HowFarLemmas.{just_done, just_whole, few_behind, into_next, into_first, within_none, within_just, within_few}
+use Rattle.input_lines.proofs.TakenLemmas.{left_first, taken_left, all_fit}
+use Rattle.input_lines.proofs.HowFarLemmas.{just_done, just_whole, meets_large, into_next, into_first, within_none, within_just, within_into, within_large}
 use Rattle.shell_session.specs.declared.faults.SessionFault.{SessionFault}
 use Rattle.shell_session.specs.declared.faults.SessionFault.TheVariants as sessions
 use Rattle.shell_run.specs.declared.faults.FolderFault.{FolderFault}
@@ -50,11 +50,7 @@ module _ (given left : Option (List ℕ)) (size done : ℕ) (so : AreTakenSoFar 
       record {
         before = done;
         counted = breaks.0;
-        meets = record {
-          fits = at.fits;
-          large = large_next bytes left size done so.lines at (breaks.1 at.rest at.is);
-          few = few_behind bytes left rest size done so.lines (inputs.TooLarge number) at (broken at.rest at.is);
-        };
+        meets = meets_large bytes left rest size done so.lines at (breaks.1 at.rest at.is) (broken at.rest at.is);
       }
   read_short inputs.NoMemory rest before knows not_yet broken large bytes told =
       inl (done, into_next given left rest size done so.lines before inputs.NoMemory knows not_yet (λ at is. absurd (cc (is))) broken bytes told (so.left_of bytes told))
@@ -88,9 +84,9 @@ said_words words.NoMemory left bytes is = inl (0, into_first bytes left is)
 pub within_end : (fault : Option ShellFault) (left : Option (List ℕ)) (bytes : List ℕ) → IsReadSo fault left bytes → IsReadWithin bytes left
 within_end None left bytes read = within_just bytes left (length (lines_of bytes) + 1) (just_whole bytes left read.all read.fits)
 within_end (Some faults.Usage) left bytes read = within_none bytes left read
-within_end (Some faults.ReadFault) left bytes read = within_few bytes left read.0 read.1.few
+within_end (Some faults.ReadFault) left bytes read = within_into bytes left read.0 read.1
 within_end (Some faults.WriteFault) left bytes read = within_just bytes left (read.before + 1) read.read
-within_end (Some faults.NoMemory) left bytes (inl part) = within_few bytes left part.0 part.1.few
+within_end (Some faults.NoMemory) left bytes (inl part) = within_into bytes left part.0 part.1
 within_end (Some faults.NoMemory) left bytes (inr line) = within_just bytes left (line.before + 1) line.read
 within_end (Some faults.Device) left bytes read = within_just bytes left (read.before + 1) read.read
-within_end (Some (faults.TooLarge number)) left bytes read = within_few bytes left read.before read.meets.few
+within_end (Some (faults.TooLarge number)) left bytes read = within_large bytes left read.before read.meets

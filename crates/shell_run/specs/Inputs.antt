@@ -19,7 +19,7 @@ pub record AreAllLines (left : Option (List ℕ)) (bytes : List ℕ) (lines : Li
   pub all : left ≡ Some []
   pub fits : (before : ℕ) → ¬ IsTooLargeLine bytes before
 
--- those whose LF was read; of the bytes behind them a part of one line was
+-- those whose LF was read; of the bytes behind them a part of one line was, which isn't too large so far
 pub record AreReadLines (left : Option (List ℕ)) (bytes : List ℕ) (lines : List (List ℕ)) : Type 0 where
   pub first : AreFirstLines bytes lines
   pub read : ReadsInto bytes left (length lines)
@@ -46,7 +46,7 @@ pub record IsReadWhole (left : Option (List ℕ)) (bytes : List ℕ) : Type 0 wh
   pub all : left ≡ Some []
   pub fits : (before : ℕ) → ¬ IsTooLargeLine bytes before
 
--- the lines whose LF was read are not too large; of the bytes behind them a part of one line was
+-- the lines whose LF was read are not too large; of the bytes behind them a part of one line was, which isn't too large so far
 abbrev pub IsReadInPart : Option (List ℕ) → List ℕ → Type 0
 IsReadInPart left bytes = (lines : ℕ) × ReadsInto bytes left lines
 
@@ -56,7 +56,7 @@ pub record IsReadUpToLine (left : Option (List ℕ)) (bytes : List ℕ) : Type 0
   pub some : left_after before bytes ≢ []
   pub read : ReadsJust bytes left (before + 1)
 
--- the line of the number is too large, and none before it is; of the bytes behind these a few were read
+-- the line of the number is too large, and none before it is; nothing was read behind the byte that makes it too large
 pub record IsFirstTooLarge (number : ℕ) (left : Option (List ℕ)) (bytes : List ℕ) : Type 0 where
   pub before : ℕ
   pub counted : number ≡ before + 1

@@ -77,8 +77,8 @@ pub fn shell<R: Threads + Sync, S: Source, K: Sink, B: Banks>(
     ensures untouched { result.fault ≡ Some ShellFault.Usage → AreUntouched source.old source.new sink.old sink.new }
     ensures same_banks { result.fault ≡ Some ShellFault.Usage → result.banks ≡ banks }
     // How far a source that tells its bytes was read, whatever the banks tell. 0: to its end, and no line is too large. 7: the line of the
-    // number is the first that is, and few bytes behind those before it were read. 2: no more than a part of one line was read behind those
-    // whose LF was. 3 and 6: the line under way is the last that was read, and what is behind it is left. 5: either of these. 1: none was.
+    // number is the first that is, and nothing was read behind the byte that makes it so. 2: no more than a part of one line was read
+    // behind those whose LF was, and that isn't too large so far. 3 and 6: the line under way is the last that was read, and what is behind it is left. 5: either of these. 1: none was.
     ensures input { WhereTold (S.left source.old) (IsReadSo result.fault (S.left source.new)) }
     // How the run ended over banks that tell their log: the lines that it did are a run of the model's shell over what was found on the banks
     // at first, and where the source tells its bytes they are these.

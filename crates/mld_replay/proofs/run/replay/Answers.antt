@@ -97,7 +97,7 @@ returns-in_err-line-clause-ends g c = λ bytes told.
     (breaks_off g.B.Banks.log (g.S.Source.left c.args.source.now) (g.S.Source.left c.loop-reply.source) (g.S.Source.left c.next_line.new.source) (g.K.Sink.held c.args.sink.now) (g.K.Sink.held c.loop-reply.sink) c.loop-reply.lines.taken c.loop-reply.stage c.loop-reply.done c.loop-reply.invariant.way bytes told)
     (λ at is.
     let b = c.in_err-line.ensures.large at (input.err_same _ _ is) in
-    stops_large g.B.Banks.log (g.S.Source.left c.args.source.now) (g.S.Source.left c.loop-reply.source) (g.S.Source.left c.next_line.new.source) (g.K.Sink.held c.args.sink.now) (g.K.Sink.held c.loop-reply.sink) c.loop-reply.lines.taken c.loop-reply.stage c.loop-reply.done at c.in_err-line.field-0.0 c.loop-reply.invariant.way b.0 b.1
+    stops_large g.B.Banks.log (g.S.Source.left c.args.source.now) (g.S.Source.left c.loop-reply.source) (g.S.Source.left c.next_line.new.source) (g.K.Sink.held c.args.sink.now) (g.K.Sink.held c.loop-reply.sink) c.loop-reply.lines.taken c.loop-reply.stage c.loop-reply.done at c.in_err-line.field-0.0 c.loop-reply.invariant.way is b.0 b.1
     c.in_err-line.ensures.broken_off bytes told)
     (λ read. whole_of_way g.B.Banks.log (AreLeftAmid g.B.Banks.log (banks_of_stage c.loop-reply.stage)) (ReadsToNext bytes (g.S.Source.left c.next_line.new.source)) (g.S.Source.left c.args.source.now) (g.S.Source.left c.loop-reply.source) (g.K.Sink.held c.args.sink.now) (g.K.Sink.held c.loop-reply.sink) c.loop-reply.lines.taken c.loop-reply.stage c.loop-reply.done
     c.loop-reply.invariant.way bytes told

@@ -7,7 +7,7 @@ use Rattle.mld_replay.specs.declared.stages.Stage.TheVariants as stages
 use Rattle.mld_replay.proofs.MeterLemmas.{founding_stops}
 use Rattle.mld_replay.proofs.StageLemmas.{blank_stage, founded_end}
 use Rattle.mld_replay.proofs.StoppedLemmas.{founding_left}
-use Rattle.mld_replay.specs.BanksLeft.{IsDueAt}
+use Rattle.mld_replay.specs.BanksLeft.{IsFoundingDueAt}
 use Rattle.mld_replay.proofs.stages.found.Goals as goal
 
 pub returns-in-Ok-clause-ok : goal.returns-in-Ok-clause-ok
@@ -26,5 +26,5 @@ returns-clause-back g c =
 
 pub returns-clause-left : goal.returns-clause-left
 returns-clause-left g c = λ lines.
-    blank_stage g.B.Banks.log (λ stage. IsDueAt stage lines → LeavesAtStop g.B.Banks.log c.in-Err.banks.items stage lines c.from.result) c.args.stage.now c.take_set_up-setup.result.0 c.take_set_up-setup.result.1
+    blank_stage g.B.Banks.log (λ stage. IsFoundingDueAt stage lines → LeavesAtStop g.B.Banks.log c.in-Err.banks.items stage lines c.from.result) c.args.stage.now c.take_set_up-setup.result.0 c.take_set_up-setup.result.1
     c.take_set_up-setup.ensures (λ blank due. rw c.from.ensures (founding_left g.B.Banks.log c.take_set_up-setup.result.0 c.in-Err.banks.items c.in-Err.fault lines c.in-Err.ensures.left due))
