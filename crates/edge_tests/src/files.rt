@@ -2,7 +2,9 @@
 use crate::made::{boxed, is_failed};
 use mld_io::{Banks, FileBanks, Side};
 use std::alloc::{AllocError, Global};
-use std::fs::{self, File, Files};
+use std::fs::{self, File, Files, Permissions};
+use std::io;
+use std::os::unix::fs::PermissionsExt;
 use std::test::Fail;
 
 const FOLDER: &str = "clone";
@@ -112,6 +114,45 @@ fn one_bank_at_a_time_has_a_folder(rt: HostRuntime) -> Result<(), Fail> {
     let _ = fs::remove_dir_all(&rt, "shared");
     assert!(rt; are_open_in_turn(rt, rt.alloc(), "shared")?);
     fs::remove_dir_all(&rt, "shared")?;
+    Ok(())
+}
+
+/// Whether a device over this folder opens, both of whose sides are without bytes.
+fn opens<R: Files<File = File> + Drop>(
+    rt: R,
+    alloc: Global,
+    folder: &str,
+) -> Result<bool, AllocError> {
+    let mut banks = banks_in(rt, alloc, folder)?;
+    Ok(have_sizes(&mut banks, 0, 0))
+}
+
+/// What each may do with what has this name.
+fn mode_of<R: Files<File = File>>(rt: &R, path: &str) -> io::Result<u32> {
+    Ok(fs::metadata(rt, path)?.permissions().mode() & 0o777)
+}
+
+/// Whether the folder and its files have these modes.
+fn have_modes<R: Files<File = File>>(rt: &R, folder: u32, a: u32, b: u32) -> io::Result<bool> {
+    Ok(
+        mode_of(rt, "own")? == folder
+            && mode_of(rt, "own/a.bank")? == a
+            && mode_of(rt, "own/b.bank")? == b,
+    )
+}
+
+#[test]
+fn what_is_made_is_for_its_owner_alone(rt: HostRuntime) -> Result<(), Fail> {
+    let _ = fs::remove_dir_all(&rt, "own");
+    assert!(rt; opens(rt, rt.alloc(), "own")?);
+    assert!(rt; have_modes(&rt, 0o700, 0o600, 0o600)?);
+    // What is there stays as it is.
+    fs::set_permissions(&rt, "own", Permissions::from_mode(0o750))?;
+    fs::set_permissions(&rt, "own/a.bank", Permissions::from_mode(0o640))?;
+    fs::remove_file(&rt, "own/b.bank")?;
+    assert!(rt; opens(rt, rt.alloc(), "own")?);
+    assert!(rt; have_modes(&rt, 0o750, 0o640, 0o600)?);
+    fs::remove_dir_all(&rt, "own")?;
     Ok(())
 }
 

@@ -21,4 +21,6 @@ mod lines;
 #[cfg(test)]
 mod made;
 #[cfg(test)]
+mod turns;
+#[cfg(test)]
 mod wires;

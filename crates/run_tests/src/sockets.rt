@@ -151,29 +151,21 @@ fn serves_clients(rt: HostRuntime) -> Result<(), Fail> {
     Ok(())
 }
 
-/// The connection of a piece of five bytes, or 0 where that isn't what is given.
-fn head_of(given: Given) -> u32 {
-    match given {
-        Given::Bytes(conn, 5) => conn,
-        _ => 0,
-    }
-}
-
-/// Whether two clients that both send frames have their turns: no piece goes behind the end of a frame's head or of its payload.
-fn gives_turns(wire: &mut TestWire, one: &mut TcpStream, other: &mut TcpStream) -> bool
+/// Whether what two clients send one behind the other is given in pieces, each of which ends where a frame's head or its payload does.
+fn gives_pieces(wire: &mut TestWire, one: &mut TcpStream, other: &mut TcpStream) -> bool
     requires { count_of_taken wire.old < 2 ^ 63 }
 {
-    let sent = other.write_all(b"\x03\0\0\0\0").is_ok()
-        && one.write_all(b"\x03\0\0\0\x02ab\x03").is_ok();
-    let first = head_of(next_of(wire));
-    let second = head_of(next_of(wire));
+    let alone = other.write_all(b"\x03\0\0\0\0").is_ok();
+    let whole = next_of(wire) == Given::Bytes(2, 5);
+    let more = one.write_all(b"\x03\0\0\0\x02ab\x03").is_ok();
+    let head = next_of(wire) == Given::Bytes(1, 5);
     let payload = next_of(wire) == Given::Bytes(1, 2);
     let behind = next_of(wire) == Given::Bytes(1, 1);
-    sent && first | second == 3 && payload && behind
+    alone && whole && more && head && payload && behind
 }
 
-/// Whether a wire gives the frames of two clients in turn.
-fn gives_in_turn(rt: &HostRuntime, wire: &mut TestWire, address: SocketAddr) -> io::Result<bool>
+/// Whether a wire gives the frames of two clients in pieces.
+fn gives_all_pieces(rt: &HostRuntime, wire: &mut TestWire, address: SocketAddr) -> io::Result<bool>
     requires { count_of_taken wire.old ≡ 0 }
 {
     let mut one = TcpStream::connect(rt, address)?;
@@ -181,16 +173,15 @@ fn gives_in_turn(rt: &HostRuntime, wire: &mut TestWire, address: SocketAddr) -> 
         return Ok(false);
     }
     let mut other = TcpStream::connect(rt, address)?;
-    Ok(next_of(wire) == Given::Opened(2) && gives_turns(wire, &mut one, &mut other))
+    Ok(next_of(wire) == Given::Opened(2) && gives_pieces(wire, &mut one, &mut other))
 }
 
-/// No piece goes behind the end of a frame's head or of its payload, and others have their turn in
-/// between.
+/// No piece goes behind the end of a frame's head or of its payload.
 #[test]
-fn gives_frames_in_turn(rt: HostRuntime) -> Result<(), Fail> {
+fn gives_frames_in_pieces(rt: HostRuntime) -> Result<(), Fail> {
     let address = free_address(&rt)?;
     let mut wire = listening(&rt, address)?;
-    assert!(rt; gives_in_turn(&rt, &mut wire, address)?);
+    assert!(rt; gives_all_pieces(&rt, &mut wire, address)?);
     Ok(())
 }
 

@@ -2,17 +2,17 @@
 
 use crate::connection::Connection;
 use crate::limits::HELD_LIMIT;
-use std::collections::{BTreeMap, VecDeque};
+use std::collections::BTreeMap;
+use wire_rules::Turns;
 
-/// The first connection that is late, and waits for its turn in neither of these lists.
+/// The first connection that is late, and doesn't wait for its turn.
 pub(crate) fn late_one(
     connections: &BTreeMap<u32, Connection>,
-    turns: &VecDeque<u32>,
-    modest: &VecDeque<u32>,
+    turns: &Turns,
     now: u64,
 ) -> Option<u32> {
     for (number, connection) in connections {
-        if connection.is_late(now) && !turns.contains(number) && !modest.contains(number) {
+        if connection.is_late(now) && !turns.contains(*number) {
             return Some(*number);
         }
     }

@@ -4,18 +4,13 @@ ghost use Rattle.std.specs.Io.{ReadsAtMost};
 ghost use Rattle.mld_io.specs.Wires.{piece_limit};
 ghost use Rattle.tcp_node.specs.TcpWires.{IsSizedEvent};
 
-use crate::framing::Framing;
 use crate::limits::{GREETING, PARTING, STANDSTILL, UNREAD_LIMIT};
-use crate::outbox::Outbox;
-use crate::rest::MUCH;
 use mio::net::TcpStream;
 use mld_io::{Event, Piece};
 use std::alloc::{AllocError, Global};
 use std::io::{self, ErrorKind, Read};
 use std::net::Shutdown;
-
-/// The most bytes of a piece that is read.
-pub(crate) const PIECE_LIMIT: usize = 65_536;
+use wire_rules::{Framing, Kind, Outbox, PIECE_LIMIT};
 
 /// How many bytes of a connection that was shut are read and dropped. One that is closed with bytes
 /// unread is reset, and what was sent last on it may then be lost.
@@ -54,7 +49,7 @@ pub(crate) struct Connection {
     /// When something last went on: it came to its stage, bytes of it went out, or bytes came behind its first
     /// frame.
     since: u64,
-    /// How many milliseconds the node works for an event of it, about.
+    /// How many microseconds the node works for an event of it, about.
     cost: u64,
 }
 
@@ -103,7 +98,7 @@ impl Connection {
         if self.called || !self.is_open() {
             return self.outbox.held();
         }
-        self.outbox.held().saturating_add(self.framing.kept)
+        self.outbox.held().saturating_add(self.framing.kept())
     }
 
     /// Its place among those that may go for another one, and since when: one that was shut, one without a
@@ -114,24 +109,33 @@ impl Connection {
         }
         let kind = match self.stage {
             Stage::Leaving | Stage::Left => 0,
-            Stage::Open if !self.framing.has_begun => 1,
+            Stage::Open if !self.framing.has_begun() => 1,
             Stage::Open => 2,
         };
         Some((kind, self.since))
     }
 
-    /// Whether it is known to ask for little: its frames are short, and the node has little work for them. So it
-    /// is of one that was called.
-    pub(crate) fn is_modest(&self) -> bool {
-        let is_short = (self.framing.length as usize) <= PIECE_LIMIT;
-        self.called || self.framing.has_begun && is_short && self.cost < MUCH
+    /// Of which kind it is among those that wait for their turn. One that was called is taken to ask for little, and
+    /// one whose frame is long for much.
+    pub(crate) fn kind(&self) -> Kind {
+        if self.called {
+            Kind::Little
+        } else if self.framing.is_blank() {
+            Kind::New
+        } else if !self.framing.is_short() {
+            Kind::Much
+        } else if !self.framing.has_begun() {
+            Kind::Modest
+        } else {
+            Kind::of_cost(self.cost)
+        }
     }
 
-    /// The node worked so long for an event of it. Gives what its events cost from now on, about.
-    pub(crate) fn note_cost(&mut self, spent: u64) -> u64 {
+    /// The node worked so many microseconds for an event of it. So it is taken to do for the next one, and for
+    /// less and less with each that costs less.
+    pub(crate) fn note_cost(&mut self, spent: u64) {
         let less = (self.cost / 8).saturating_add(1);
         self.cost = self.cost.saturating_sub(less).max(spent);
-        self.cost
     }
 
     /// Whether nothing went on for as long as the other end has time.
@@ -139,8 +143,8 @@ impl Connection {
         let time = match self.stage {
             Stage::Left => PARTING,
             Stage::Leaving => STANDSTILL,
-            Stage::Open if !self.framing.has_begun => GREETING,
-            Stage::Open if self.framing.kept == 0 && self.outbox.is_empty() => return false,
+            Stage::Open if !self.framing.has_begun() => GREETING,
+            Stage::Open if self.framing.kept() == 0 && self.outbox.is_empty() => return false,
             Stage::Open => STANDSTILL,
         };
         !self.is_broken() && now.saturating_sub(self.since) >= time
@@ -216,7 +220,7 @@ impl Connection {
         }
         bytes.truncate(count);
         self.framing.advance(&bytes);
-        if self.framing.has_begun {
+        if self.framing.has_begun() {
             self.since = now;
         }
         Some(Event::Bytes(self.number, Piece::from_vec(bytes)))

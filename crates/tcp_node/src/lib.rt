@@ -3,16 +3,12 @@
 
 mod choosing;
 mod connection;
-mod framing;
 mod keepalive;
 mod limits;
-mod outbox;
 mod peer;
 mod processes;
-mod rest;
 mod sockets;
 mod table;
-mod watch;
 mod wire;
 
 pub use processes::run_process;

@@ -3,9 +3,6 @@
 /// How many connections there are when one has to go. One that is called comes beside them.
 pub(crate) const PLACES: usize = 1_024;
 
-/// How many turns of the others come at most before one that asks for little has a turn.
-pub(crate) const OTHERS: u64 = 8;
-
 /// How many bytes all connections may hold together, but for the longest piece that is being sent.
 pub(crate) const HELD_LIMIT: usize = 268_435_456;
 
@@ -26,6 +23,3 @@ pub(crate) const PARTING: u64 = 10_000;
 
 /// How much time goes by between two looks at what is late.
 pub(crate) const LOOK: u64 = 1_000;
-
-/// How much time a turn of the wire counts at most, however long it took.
-pub(crate) const STEP: u64 = 2_000;

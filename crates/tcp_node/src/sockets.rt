@@ -62,12 +62,11 @@ impl Sockets {
     {
         self.table.settle(rt);
         for _ in 0..u64::MAX {
-            self.table.call_peer(rt)?;
+            self.table.call_peer(rt);
             let timeout = self.table.timeout();
-            self.wait(timeout)?;
-            self.table.look(rt)?;
-            if let Some(event) = self.table.take_turns()? {
-                self.table.begin(rt);
+            self.wait(timeout).map_err(failed)?;
+            self.table.look(rt);
+            if let Some(event) = self.table.take_turns(rt) {
                 return Ok(event);
             }
         }
@@ -75,11 +74,11 @@ impl Sockets {
     }
 
     /// Waits until there is something to do, or the time is up.
-    fn wait(&mut self, timeout: Option<Duration>) -> Result<(), IoFault> {
-        self.poll.poll(&mut self.events, timeout).map_err(failed)?;
+    fn wait(&mut self, timeout: Option<Duration>) -> io::Result<()> {
+        self.poll.poll(&mut self.events, timeout)?;
         for event in &self.events {
             if let Ok(number) = u32::try_from(event.token().0) {
-                self.table.queue(number)?;
+                self.table.queue(number);
             }
         }
         Ok(())

@@ -3,26 +3,28 @@ ghost use Rattle.std.specs.Prelude.{IfOk, IfSome};
 ghost use Rattle.tcp_node.specs.TcpWires.{IsSizedEvent};
 
 use crate::choosing::{idlest_one, largest_one, late_one};
-use crate::connection::{Connection, PIECE_LIMIT};
+use crate::connection::Connection;
 use crate::keepalive::watch_over;
-use crate::limits::{GROWTH, LOOK, OTHERS, PLACES};
+use crate::limits::{GROWTH, LOOK, PLACES};
 use crate::peer::Peer;
-use crate::rest::Rest;
-use crate::watch::{Watch, worked};
 use mio::net::{TcpListener, TcpStream};
 use mio::{Interest, Registry, Token};
-use mld_io::{Event, IoFault};
+use mld_io::Event;
 use std::alloc::{AllocError, Global};
-use std::collections::{BTreeMap, VecDeque};
+use std::collections::BTreeMap;
 use std::io::{self, ErrorKind};
 use std::net::{Net, SocketAddr};
 use std::time::{Clock, CpuClock, Duration};
+use wire_rules::{Kind, PIECE_LIMIT, Turns, Watch, worked};
 
 /// The number under which the listener stands.
 pub(crate) const LISTENER: u32 = 0;
 
 /// The number under which the call of the peer stands.
 const CALL: u32 = u32::MAX;
+
+/// How much waits for its turn beside connections: the listener and the call.
+const BESIDE: usize = 2;
 
 /// The listener, the peer and the connections. What may have something to tell waits for its turn,
 /// and each turn reads once or accepts one connection, so none keeps the others waiting.
@@ -35,17 +37,10 @@ pub(crate) struct Table {
     held_up: bool,
     peer: Option<Peer>,
     connections: BTreeMap<u32, Connection>,
-    /// The numbers of what waits for its turn.
-    turns: VecDeque<u32>,
-    /// Those of connections that wait for it and ask for little.
-    modest: VecDeque<u32>,
-    /// How many turns of the others there were behind the last turn of one of these.
-    others: u64,
-    /// The number whose event was given last, and who has no turn behind it for a while.
-    served: u32,
-    rest: Rest,
-    /// What the node had worked when that was given.
-    worked: u64,
+    /// What waits for its turn.
+    turns: Turns,
+    /// The number whose event was given last, and what the node had worked then, where it isn't settled yet.
+    given: Option<(u32, u64)>,
     /// The number that was given last.
     last: u32,
     watch: Watch,
@@ -63,6 +58,8 @@ impl Table {
         listener: TcpListener,
         peer: Option<Peer>,
     ) -> Result<Table, AllocError> {
+        let mut turns = Turns::new(alloc);
+        turns.reserve(BESIDE)?;
         Ok(Table {
             alloc,
             registry,
@@ -70,13 +67,8 @@ impl Table {
             held_up: false,
             peer,
             connections: BTreeMap::new(alloc),
-            // There is room for each connection, the one that is called, the listener and the call.
-            turns: VecDeque::with_capacity(alloc, PLACES + 3)?,
-            modest: VecDeque::with_capacity(alloc, PLACES + 3)?,
-            others: 0,
-            served: LISTENER,
-            rest: Rest::new(),
-            worked: 0,
+            turns,
+            given: None,
             last: 0,
             watch: Watch::new(),
             looked: 0,
@@ -86,15 +78,12 @@ impl Table {
 
     /// How long to wait for what comes.
     pub(crate) fn timeout(&self) -> Option<Duration> {
-        if !self.modest.is_empty() {
-            return Some(Duration::ZERO);
+        if let Some(due) = self.turns.due(self.watch.micros()) {
+            return Some(Duration::from_micros(due));
         }
-        if !self.turns.is_empty() {
-            let rest = self.rest.until.saturating_sub(self.watch.now);
-            return Some(Duration::from_millis(rest));
-        }
+        let now = self.watch.now();
         let due = match &self.peer {
-            Some(peer) if !self.has_peer() => peer.due().saturating_sub(self.watch.now),
+            Some(peer) if !self.has_peer() => peer.due().saturating_sub(now),
             Some(_) => LOOK,
             None if self.held_up || !self.connections.is_empty() => LOOK,
             None => return None,
@@ -111,44 +100,40 @@ impl Table {
             .is_some_and(|connection| connection.is_open())
     }
 
-    /// An event is given.
-    pub(crate) fn begin<R: CpuClock>(&mut self, rt: &R) {
-        self.worked = worked(rt);
-    }
-
     /// The event that was given last is done. What the node worked since is what it cost.
     pub(crate) fn settle<R: Clock + CpuClock>(&mut self, rt: &R) {
-        let spent = worked(rt).saturating_sub(self.worked);
+        let Some((number, before)) = self.given.take() else {
+            return;
+        };
+        let spent = worked(rt).saturating_sub(before);
         self.watch.turn(rt);
-        if let Some(connection) = self.connections.get_mut(&self.served) {
-            let cost = connection.note_cost(spent);
-            self.rest.note(self.served, spent, cost, self.watch.now);
+        self.turns.settle(spent, self.watch.micros());
+        if let Some(connection) = self.connections.get_mut(&number) {
+            connection.note_cost(spent);
         }
-        self.served = LISTENER;
     }
 
     /// Calls the peer where that is due.
-    pub(crate) fn call_peer<R: Net>(&mut self, rt: &R) -> Result<(), AllocError> {
-        let now = self.watch.now;
+    pub(crate) fn call_peer<R: Net>(&mut self, rt: &R) {
+        let now = self.watch.now();
         let has_peer = self.has_peer();
         let Some(peer) = &mut self.peer else {
-            return Ok(());
+            return;
         };
         if has_peer {
             peer.stay_up(now);
         } else if peer.due() <= now
             && let Some(address) = peer.begin_call(rt, now)
         {
-            return self.call(rt, address);
+            self.call(rt, address);
         }
-        Ok(())
     }
 
     /// Calls the peer at an address. Where no descriptor is left, a connection goes for it.
-    fn call<R: Net>(&mut self, rt: &R, address: SocketAddr) -> Result<(), AllocError> {
+    fn call<R: Net>(&mut self, rt: &R, address: SocketAddr) {
         let called = match TcpStream::connect(rt, address) {
             Err(error) if lacks_descriptors(&error) => {
-                self.make_place()?;
+                self.make_place();
                 TcpStream::connect(rt, address)
             }
             called => called,
@@ -162,123 +147,95 @@ impl Table {
         {
             peer.stream = Some(stream);
         }
-        Ok(())
     }
 
     /// Reads the clock. Once in a second, breaks off the connections that are late, and accepts again where that
     /// was held up.
-    pub(crate) fn look<R: Clock>(&mut self, rt: &R) -> Result<(), AllocError> {
+    pub(crate) fn look<R: Clock>(&mut self, rt: &R) {
         self.watch.turn(rt);
-        let now = self.watch.now;
+        let now = self.watch.now();
         if now.saturating_sub(self.looked) < LOOK {
-            return Ok(());
+            return;
         }
         self.looked = now;
         if self.held_up {
             self.held_up = false;
-            self.queue(LISTENER)?;
+            self.queue(LISTENER);
         }
         for _ in 0..self.connections.len() {
-            match late_one(&self.connections, &self.turns, &self.modest, now) {
-                Some(number) => self.break_off(number)?,
+            match late_one(&self.connections, &self.turns, now) {
+                Some(number) => self.break_off(number),
                 None => break,
             }
         }
-        Ok(())
     }
 
     /// What stands under this number waits for its turn.
-    pub(crate) fn queue(&mut self, number: u32) -> Result<(), AllocError> {
-        if self.turns.contains(&number) || self.modest.contains(&number) {
-            return Ok(());
-        }
-        if self
-            .connections
-            .get(&number)
-            .is_some_and(|connection| connection.is_modest())
-        {
-            self.modest.push_back(number)?;
-        } else {
-            self.turns.push_back(number)?;
-        }
-        Ok(())
-    }
-
-    /// The number whose turn it is, where it is that of any.
-    fn next_number(&mut self) -> Option<u32> {
-        let rests = self.watch.now < self.rest.until;
-        let is_modest = rests || self.turns.is_empty() || self.others >= OTHERS;
-        if is_modest && !self.modest.is_empty() {
-            self.others = 0;
-            return self.modest.pop_front();
-        }
-        if rests {
-            return None;
-        }
-        self.others = self.others.saturating_add(1);
-        self.turns.pop_front()
+    pub(crate) fn queue(&mut self, number: u32) {
+        let kind = match self.connections.get(&number) {
+            Some(connection) => connection.kind(),
+            None => Kind::New,
+        };
+        self.turns.add(number, kind, self.watch.micros());
     }
 
     /// Gives the turn to each that waits for it now, until one has an event.
-    pub(crate) fn take_turns(&mut self) -> Result<Option<Event>, AllocError>
-        ensures sized { IfOk result (λ found. IfSome found IsSizedEvent) }
+    pub(crate) fn take_turns<R: CpuClock>(&mut self, rt: &R) -> Option<Event>
+        ensures sized { IfSome result IsSizedEvent }
     {
-        for _ in 0..self.turns.len().saturating_add(self.modest.len()) {
-            let Some(number) = self.next_number() else {
-                break;
-            };
+        for _ in 0..self.turns.len() {
+            let number = self.turns.next(self.watch.micros())?;
             let event = match number {
-                LISTENER => self.accept()?,
+                LISTENER => self.accept(),
                 CALL => self.answer(),
-                _ => self.read(number)?,
+                _ => self.read(number),
             };
             if event.is_some() {
-                self.served = number;
-                return Ok(event);
+                self.given = Some((number, worked(rt)));
+                return event;
             }
         }
-        Ok(None)
+        None
     }
 
     /// Accepts one connection, once there is a place for it.
-    fn accept(&mut self) -> Result<Option<Event>, AllocError>
-        ensures sized { IfOk result (λ found. IfSome found IsSizedEvent) }
+    fn accept(&mut self) -> Option<Event>
+        ensures sized { IfSome result IsSizedEvent }
     {
         if self.connections.len() >= PLACES {
-            self.make_way()?;
-            return Ok(None);
+            self.make_way();
+            return None;
         }
         match self.listener.accept() {
             Ok((stream, _)) => {
-                self.queue(LISTENER)?;
+                self.queue(LISTENER);
                 let number = self.free_number();
-                return Ok(self.add(number, stream, false));
+                return self.add(number, stream, false);
             }
             Err(error) if error.kind() == ErrorKind::WouldBlock => {}
-            Err(error) if lacks_descriptors(&error) => self.make_way()?,
+            Err(error) if lacks_descriptors(&error) => self.make_way(),
             Err(_) => self.held_up = true,
         }
-        Ok(None)
+        None
     }
 
     /// Has a connection go for one that comes, which is accepted behind that, or later where none goes.
-    fn make_way(&mut self) -> Result<(), AllocError> {
-        if self.make_place()? {
-            self.queue(LISTENER)?;
+    fn make_way(&mut self) {
+        if self.make_place() {
+            self.queue(LISTENER);
         } else {
             self.held_up = true;
         }
-        Ok(())
     }
 
     /// Breaks off the connection that goes for another one, and tells whether there was one.
-    fn make_place(&mut self) -> Result<bool, AllocError> {
+    fn make_place(&mut self) -> bool {
         match idlest_one(&self.connections) {
             Some(number) => {
-                self.break_off(number)?;
-                Ok(true)
+                self.break_off(number);
+                true
             }
-            None => Ok(false),
+            None => false,
         }
     }
 
@@ -310,8 +267,11 @@ impl Table {
         // Where this fails, small pieces may wait a while.
         let _ = stream.set_nodelay(true);
         watch_over(&stream);
-        let connection = Connection::new(self.alloc, number, called, stream, self.watch.now);
-        if self.connections.insert(number, connection).is_err() {
+        let connection = Connection::new(self.alloc, number, called, stream, self.watch.now());
+        let count = self.connections.len().saturating_add(BESIDE + 1);
+        if self.turns.reserve(count).is_err()
+            || self.connections.insert(number, connection).is_err()
+        {
             return None;
         }
         self.last = number;
@@ -334,68 +294,65 @@ impl Table {
     }
 
     /// Reads once on a connection.
-    fn read(&mut self, number: u32) -> Result<Option<Event>, AllocError>
-        ensures sized { IfOk result (λ found. IfSome found IsSizedEvent) }
+    fn read(&mut self, number: u32) -> Option<Event>
+        ensures sized { IfSome result IsSizedEvent }
     {
-        let now = self.watch.now;
-        let Some(connection) = self.connections.get_mut(&number) else {
-            return Ok(None);
-        };
+        let now = self.watch.now();
+        let connection = self.connections.get_mut(&number)?;
         let event = connection.turn(self.alloc, now);
         let more = connection.more;
         if connection.is_over() {
             self.connections.remove(&number);
         } else if more {
-            self.queue(number)?;
+            self.queue(number);
         }
-        self.grow(PIECE_LIMIT)?;
-        Ok(event)
+        self.grow(PIECE_LIMIT);
+        event
     }
 
     /// Sends the piece, where the connection is open.
-    pub(crate) fn send(&mut self, number: u32, piece: &[u8]) -> Result<(), AllocError> {
-        let now = self.watch.now;
+    pub(crate) fn send(&mut self, number: u32, piece: &[u8]) {
+        let now = self.watch.now();
         let is_broken = match self.connections.get_mut(&number) {
             Some(connection) if connection.is_open() => {
                 connection.send(piece, now);
                 connection.is_broken()
             }
-            _ => return Ok(()),
+            _ => return,
         };
         if is_broken {
-            self.queue(number)?;
+            self.queue(number);
         }
-        self.grow(piece.len())
+        self.grow(piece.len());
     }
 
     /// The connections may hold so many bytes more. While they hold too much, the one that holds most is broken
     /// off.
-    fn grow(&mut self, bytes: usize) -> Result<(), AllocError> {
+    fn grow(&mut self, bytes: usize) {
         self.grown = self.grown.saturating_add(bytes);
         if self.grown < GROWTH {
-            return Ok(());
+            return;
         }
         self.grown = 0;
         for _ in 0..self.connections.len() {
             match largest_one(&self.connections) {
-                Some(number) => self.break_off(number)?,
+                Some(number) => self.break_off(number),
                 None => break,
             }
         }
-        Ok(())
     }
 
     /// Breaks off a connection. That it is shut is told at its turn.
-    fn break_off(&mut self, number: u32) -> Result<(), AllocError> {
+    fn break_off(&mut self, number: u32) {
         if let Some(connection) = self.connections.get_mut(&number) {
             connection.break_off();
         }
-        self.queue(number)
+        self.queue(number);
     }
 
     /// Shuts the connection, where it is open.
     pub(crate) fn shut(&mut self, number: u32) {
-        let now = self.watch.now;
+        let now = self.watch.now();
         if let Some(connection) = self.connections.get_mut(&number)
             && connection.is_open()
         {
@@ -405,7 +362,7 @@ impl Table {
 
     /// Sends what the connections take at once, and drops what comes. Whether all of them may be closed.
     pub(crate) fn part(&mut self) -> bool {
-        let (alloc, now) = (self.alloc, self.watch.now);
+        let (alloc, now) = (self.alloc, self.watch.now());
         let mut is_done = true;
         for connection in self.connections.values_mut() {
             let may_close = connection.part(alloc, now);

@@ -7,12 +7,14 @@ ghost use Rattle.tcp_node.specs.TcpWires.{IsSizedEvent, faults_of, count_of_take
 use crate::sockets::Sockets;
 use mld_io::{Event, IoFault, Wire};
 use std::alloc::{AllocError, Global};
+use std::marker::Model;
 use std::net::Net;
 use std::time::{Clock, CpuClock};
 
 /// Connections over TCP: those that others open on an address, and one to a peer. It opens its
 /// sockets at the first call of `next` or `send`, and tries again at the next one where that
-/// failed. It tells nothing of what its sockets give and take, and counts each failure.
+/// failed. It tells nothing of what its sockets give and take, and counts each failure. Memory can be wanting to
+/// it only where it opens its sockets, and then it is as it was.
 ///
 /// Connections are numbered from 1 in the order in which they come up. Behind 2^32-2 comes the least
 /// number that none has.
@@ -21,6 +23,14 @@ pub struct TcpWire<R> {
     ends: Ends<R>,
     taken: u64,
     faults: u64,
+}
+
+impl<R> Model for TcpWire<R> {
+    ghost use Rattle.tcp_node.specs.TcpWires.{TcpCounts};
+
+    ghost Value = { TcpCounts };
+
+    ghost view = { λ w. record { taken = w.taken; faults = w.faults } };
 }
 
 impl<R: Net + Clock + CpuClock + Drop> TcpWire<R> {
@@ -56,8 +66,7 @@ impl<R: Net + Clock + CpuClock + Drop> TcpWire<R> {
     /// Sends what still waits on the connections, and drops what comes. Ends once nothing is left to do,
     /// nothing was reported for a second, or ten seconds are over. Called before the wire is dropped.
     pub fn finish(&mut self)
-        ensures taken { count_of_taken self.new ≡ count_of_taken self.old }
-        ensures faults { faults_of self.new ≡ faults_of self.old }
+        ensures { self.new ≡ self.old }
     {
         if let Some(sockets) = &mut self.ends.sockets {
             sockets.finish(&self.ends.rt);
@@ -135,7 +144,10 @@ impl<R: Net + Clock + CpuClock + Drop> Ends<R> {
     fn send(&mut self, conn: u32, piece: &[u8]) -> Result<(), IoFault> {
         self.open()?;
         match &mut self.sockets {
-            Some(sockets) => Ok(sockets.table.send(conn, piece)?),
+            Some(sockets) => {
+                sockets.table.send(conn, piece);
+                Ok(())
+            }
             None => Err(IoFault::Failed),
         }
     }

@@ -1,6 +1,5 @@
 //! Bytes that wait to be sent.
 
-use mio::net::TcpStream;
 use std::alloc::{AllocError, Global};
 use std::collections::VecDeque;
 use std::io::{ErrorKind, Write};
@@ -10,7 +9,7 @@ const PIECE_COST: usize = 64;
 
 /// The pieces that wait to be sent on one connection, in order.
 #[derive(Drop)]
-pub(crate) struct Outbox {
+pub struct Outbox {
     alloc: Global,
     pieces: VecDeque<Vec<u8>>,
     /// How many bytes of the first piece were sent.
@@ -21,10 +20,11 @@ pub(crate) struct Outbox {
 
 /// The connection takes no more bytes.
 #[derive(Clone, Copy, Debug, Drop)]
-pub(crate) struct Broken;
+pub struct Broken;
 
 impl Outbox {
-    pub(crate) fn new(alloc: Global) -> Outbox {
+    /// Nothing waits.
+    pub fn new(alloc: Global) -> Outbox {
         Outbox {
             alloc,
             pieces: VecDeque::new(alloc),
@@ -33,24 +33,25 @@ impl Outbox {
         }
     }
 
-    pub(crate) fn is_empty(&self) -> bool {
+    /// Whether nothing waits.
+    pub fn is_empty(&self) -> bool {
         self.pieces.is_empty()
     }
 
     /// How many bytes what waits takes, about.
-    pub(crate) fn held(&self) -> usize {
+    pub fn held(&self) -> usize {
         let pieces = self.pieces.len().saturating_mul(PIECE_COST);
         self.len.saturating_add(pieces)
     }
 
     /// How many bytes wait of the piece that is being sent.
-    pub(crate) fn first(&self) -> usize {
+    pub fn first(&self) -> usize {
         let first = self.pieces.front().map_or(0, |piece| piece.len());
         first.saturating_sub(self.sent)
     }
 
     /// Puts a copy of the piece behind what waits.
-    pub(crate) fn push(&mut self, piece: &[u8]) -> Result<(), AllocError> {
+    pub fn push(&mut self, piece: &[u8]) -> Result<(), AllocError> {
         if piece.is_empty() {
             return Ok(());
         }
@@ -60,14 +61,14 @@ impl Outbox {
     }
 
     /// Drops what waits.
-    pub(crate) fn clear(&mut self) {
+    pub fn clear(&mut self) {
         self.pieces.clear();
         self.sent = 0;
         self.len = 0;
     }
 
     /// Writes as much as the stream takes at once.
-    pub(crate) fn write_to(&mut self, stream: &mut TcpStream) -> Result<(), Broken> {
+    pub fn write_to<W: Write>(&mut self, stream: &mut W) -> Result<(), Broken> {
         for _ in 0..self.len.saturating_add(1) {
             let Some(rest) = self.pieces.front().and_then(|piece| piece.get(self.sent..)) else {
                 return Ok(());

@@ -2,7 +2,8 @@
 ghost use Rattle.std.specs.Prelude.{◌≤◌};
 ghost use Rattle.mld_io.specs.Wires.{piece_limit};
 
-use crate::connection::PIECE_LIMIT;
+/// The most bytes of a piece that is read.
+pub const PIECE_LIMIT: usize = 65_536;
 
 /// How many bytes of a frame come before its payload: its kind, and the length of the payload in
 /// four.
@@ -14,24 +15,24 @@ const LONGEST: u32 = 1_048_588;
 
 /// How far the frame is that is under way on a connection.
 #[derive(Clone, Copy, Debug)]
-pub(crate) struct Framing {
+pub struct Framing {
     /// How many bytes of its head came.
     head: usize,
     /// What the bytes of its head give as a number, and once they are all there how many bytes of
     /// its payload are still to come.
     left: u32,
     /// How many bytes its payload has, once its head is there.
-    pub(crate) length: u32,
+    length: u32,
     /// How many bytes came that may still be kept for what they belong to: those of the frame under way, and
     /// those of the longest frames right before it, which may be parts of one message.
-    pub(crate) kept: usize,
+    kept: usize,
     /// Whether there was a whole frame.
-    pub(crate) has_begun: bool,
+    has_begun: bool,
 }
 
 impl Framing {
     /// The first frame, of which nothing came.
-    pub(crate) fn new() -> Framing {
+    pub fn new() -> Framing {
         Framing {
             head: 0,
             left: 0,
@@ -41,9 +42,29 @@ impl Framing {
         }
     }
 
+    /// How many bytes came that may still be kept for what they belong to.
+    pub fn kept(&self) -> usize {
+        self.kept
+    }
+
+    /// Whether not even the head of a frame came.
+    pub fn is_blank(&self) -> bool {
+        !self.has_begun && self.head < HEAD
+    }
+
+    /// Whether there was a whole frame.
+    pub fn has_begun(&self) -> bool {
+        self.has_begun
+    }
+
+    /// Whether the frame under way has no more bytes than a piece, as far as is known.
+    pub fn is_short(&self) -> bool {
+        (self.length as usize) <= PIECE_LIMIT
+    }
+
     /// How many bytes may be read: those that its head lacks, or those that its payload lacks, as
     /// far as a piece goes. So no piece goes behind the end of a frame.
-    pub(crate) fn wanted(&self) -> usize
+    pub fn wanted(&self) -> usize
         ensures some { 1 ≤ result }
         ensures few { result ≤ piece_limit }
     {
@@ -54,7 +75,7 @@ impl Framing {
     }
 
     /// These bytes of it came, no more than were wanted.
-    pub(crate) fn advance(&mut self, bytes: &[u8]) {
+    pub fn advance(&mut self, bytes: &[u8]) {
         self.kept = self.kept.saturating_add(bytes.len());
         if self.head < HEAD {
             for byte in bytes {
