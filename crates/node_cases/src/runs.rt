@@ -112,12 +112,12 @@ fn play<R: Print + Threads + Sync + Alloc<A = Global>>(
     if crash_of(section).is_some() {
         banks.revive();
     }
-    compare(rt, way, section, &wire.wire, end, banks)
+    compare(rt, way, section, wire.wire(), end, banks)
 }
 
 /// The wire of a run, of which nothing was taken yet.
 fn wire_of(alloc: Global, section: Section<'_>, is_cut: bool) -> Result<ScarceWire, AllocError>
-    ensures { IfOk result (λ wire. length (taken_of wire.wire.log) ≡ 0) }
+    ensures { IfOk result (λ wire. length (taken_of wire.log) ≡ 0) }
 {
     let lacks = fails_of(alloc, section, Failing::Memory)?;
     let wire = memory_wire_of(alloc, section, is_cut)?;

@@ -3,26 +3,42 @@ ghost use Rattle.std.specs.Prelude.{◌≡◌, None, length};
 ghost use Rattle.mld_io.specs.Wires.{taken_of};
 
 use mld_io::{Event, IoFault, MemoryWire, Wire};
+use std::marker::Model;
 
 /// A wire in memory of which chosen calls find no memory. Its calls of `next` and `send` are counted together, from 0.
 #[derive(Drop)]
 pub struct ScarceWire {
     /// The wire that does the other calls.
-    pub wire: MemoryWire,
+    wire: MemoryWire,
     calls: u64,
     lacks: Vec<u64>,
+}
+
+impl Model for ScarceWire {
+    ghost use Rattle.mld_io.specs.MemoryWires.{WireValue};
+
+    ghost Value = { WireValue };
+
+    ghost view = { λ w. w.wire };
 }
 
 impl ScarceWire {
     /// Such a wire, of which the calls with these numbers find no memory.
     pub fn new(wire: MemoryWire, lacks: Vec<u64>) -> ScarceWire
-        ensures { result.wire ≡ wire }
+        ensures { result ≡ wire }
     {
         ScarceWire {
             wire,
             calls: 0,
             lacks,
         }
+    }
+
+    /// The wire that does the other calls.
+    pub fn wire(&self) -> &MemoryWire
+        ensures { result.now ≡ self.now }
+    {
+        &self.wire
     }
 }
 
@@ -36,9 +52,9 @@ fn lacks_memory(calls: &mut u64, lacks: &[u64]) -> bool {
 impl Wire for ScarceWire {
     ghost log = { λ w. None };
 
-    ghost taken = { λ w. length (taken_of w.wire.log) };
+    ghost taken = { λ w. length (taken_of w.log) };
 
-    ghost faults = { λ w. w.wire.faults };
+    ghost faults = { λ w. w.faults };
 
     fn next(&mut self) -> Result<Event, IoFault> {
         if lacks_memory(&mut self.calls, self.lacks.as_slice()) {

@@ -62,13 +62,42 @@ fn case_of(line: &str) -> Option<Case<'_>> {
 }
 
 /// Tries the cases of each file here that ends with `.txt`, with nothing left of the file before; whether each has a case, and none differs.
-/// What differs is written, and at the end a line for each kind that counts its cases, and one that counts the files.
+/// Then those of each file that ends with `.changed`, in each of which something is changed; whether all of these differ. What differs is
+/// written, and at the end a line that counts the changed cases, one for each kind that counts its cases, and one that counts the files.
 pub fn try_cases<R: Files + Print + Alloc<A = Global> + Clone + Drop, T: Tries>(
     rt: &R,
     tries: &mut T,
 ) -> io::Result<bool> {
+    let changed = Box::new(rt.alloc(), names_of_files(rt, ".changed")?)?;
+    let are_found = try_changed(rt, tries, changed.as_slice())?;
     let names = Box::new(rt.alloc(), names_of_files(rt, ".txt")?)?;
-    try_files(rt, tries, names.as_slice())
+    Ok(try_files(rt, tries, names.as_slice())? && are_found)
+}
+
+/// Tries the cases of these files, in each of which something is changed; whether all of them differ. How many there are, and how many
+/// differ, is written.
+fn try_changed<R: Files + Print + Alloc<A = Global>, T: Tries>(
+    rt: &R,
+    tries: &mut T,
+    names: &[String],
+) -> io::Result<bool> {
+    let mut tallies = Box::new(rt.alloc(), Vec::new(rt.alloc()))?;
+    for name in names {
+        try_file(rt, tries, name.as_str(), &mut tallies)?;
+    }
+    let all = sum_of(tallies.as_slice());
+    println!(rt; "{} changed cases, {} differ", all.runs, all.differ)?;
+    Ok(all.runs == all.differ)
+}
+
+/// The cases of all words together.
+fn sum_of(tallies: &[Tally]) -> Count {
+    let mut all = Count::new();
+    for tally in tallies {
+        all.runs = all.runs.saturating_add(tally.cases.runs);
+        all.differ = all.differ.saturating_add(tally.cases.differ);
+    }
+    all
 }
 
 /// Tries the cases of these files.
