@@ -1,36 +1,37 @@
-"""Frames of the stream between a node and whoever is connected to it, as `docs/FORMATS.md` says under "Node", and a client over them."""
+"""The bytes of the stream between a node and whoever is connected to it: frames, and messages in parts, as `docs/FORMATS.md` says under
+"Frames"."""
+
+from __future__ import annotations
 
 import dataclasses
-import socket
 import struct
+import uuid
+from typing import Optional, Union
 
 PIECE_LIMIT = 1 << 20
 PAYLOAD_LIMIT = PIECE_LIMIT + 12
 PARTS_LIMIT = 1024
-
-# What a node says by a frame that refuses, by its code.
-REFUSALS = {
-    1: "bad frame: a frame that isn't in the format, a part that isn't the next one, or a whole that is no message",
-    2: "too long: a frame of more than 1,048,588 bytes",
-    3: "other domain: the greeting names another domain",
-    4: "other format: the greeting is of another format",
-    5: "own id: the greeting has the id of the node itself",
-    6: "out of order: a frame that doesn't stand here",
-    7: "message too long: what is to be sent has more than 1,073,741,824 bytes",
-    8: "foreign tick: the message has ticks of the node's own path that it never gave",
-    9: "deep: the node's path has 64 letters and can't be forked",
-}
+# The format of a greeting that a node of today has.
+GREETING_FORMAT = 1
 
 
 @dataclasses.dataclass(frozen=True)
 class Hello:
+    """A greeting: the format, the 16 bytes of who greets, and the name of the domain."""
+
     format: int
     id: bytes
     domain: str
 
+    def uuid(self) -> uuid.UUID:
+        """The id as a UUID."""
+        return uuid.UUID(bytes=self.id)
+
 
 @dataclasses.dataclass(frozen=True)
 class Part:
+    """A part of a message between peers: the number of the message, the index of the part, how many there are, and its bytes."""
+
     number: int
     index: int
     count: int
@@ -39,25 +40,35 @@ class Part:
 
 @dataclasses.dataclass(frozen=True)
 class Request:
+    """A request of a client: a line, without a line end."""
+
     line: bytes
 
 
 @dataclasses.dataclass(frozen=True)
 class Reply:
+    """A piece of a reply, and whether it is the last."""
+
     piece: bytes
     is_last: bool
 
 
 @dataclasses.dataclass(frozen=True)
 class Refuse:
+    """A refusal, behind which the connection is shut, by its code."""
+
     code: int
 
 
-def u32(number):
+Frame = Union[Hello, Part, Request, Reply, Refuse]
+
+
+def u32(number: int) -> bytes:
+    """The four bytes of a number."""
     return struct.pack(">I", number)
 
 
-def write_frame(frame):
+def write_frame(frame: Frame) -> bytes:
     """The bytes of a frame."""
     if isinstance(frame, Hello):
         domain = frame.domain.encode()
@@ -73,7 +84,7 @@ def write_frame(frame):
     return bytes([kind]) + u32(len(payload)) + payload
 
 
-def read_payload(kind, payload):
+def read_payload(kind: int, payload: bytes) -> Optional[Frame]:
     """The frame of a kind and a whole payload; None where there is no such frame."""
     size = len(payload)
     if kind == 1:
@@ -98,16 +109,17 @@ class Frames:
     """The frames of a stream, whose bytes come in pieces. `fault` is "bad frame" or "too long" once there was one, `place` where its
     frame begins in the stream."""
 
-    def __init__(self):
+    def __init__(self) -> None:
         self.rest = bytearray()
         self.place = 0
-        self.fault = None
+        self.fault: Optional[str] = None
 
-    def feed(self, piece):
+    def feed(self, piece: bytes) -> list[Frame]:
         """The frames that end in this piece, up to the first fault."""
         assert self.fault is None
         self.rest += piece
-        frames, at = [], 0
+        frames: list[Frame] = []
+        at = 0
         while len(self.rest) - at >= 5:
             size = int.from_bytes(self.rest[at + 1 : at + 5], "big")
             if size > PAYLOAD_LIMIT:
@@ -126,13 +138,13 @@ class Frames:
         return frames
 
 
-def write_parts(number, message):
+def write_parts(number: int, message: bytes) -> bytes:
     """The frames that carry the bytes of a message."""
     pieces = [message[at : at + PIECE_LIMIT] for at in range(0, len(message), PIECE_LIMIT)]
     return b"".join(write_frame(Part(number, index, len(pieces), piece)) for index, piece in enumerate(pieces))
 
 
-def write_reply(text):
+def write_reply(text: bytes) -> bytes:
     """The frames that carry a reply."""
     pieces = [text[at : at + PIECE_LIMIT] for at in range(0, len(text), PIECE_LIMIT)]
     return b"".join(write_frame(Reply(piece, index == len(pieces) - 1)) for index, piece in enumerate(pieces))
@@ -141,12 +153,12 @@ def write_reply(text):
 class Assembly:
     """What came of the message under way on a connection, and the number of the next one."""
 
-    def __init__(self):
+    def __init__(self) -> None:
         self.number = 0
         self.count = 0
-        self.pieces = []
+        self.pieces: list[bytes] = []
 
-    def add(self, part):
+    def add(self, part: Part) -> Union[bytes, None, bool]:
         """The bytes of a message that is whole now, None where parts are missing, or False where it isn't the next part."""
         if not self.pieces:
             if not 1 <= part.count <= PARTS_LIMIT:
@@ -164,84 +176,3 @@ class Assembly:
         self.number = (self.number + 1) % 2**32
         self.pieces = []
         return whole
-
-
-class Gone(Exception):
-    """A node can't be asked any more: why, and the status by which a program ends of it."""
-
-    def __init__(self, status, text):
-        super().__init__(text)
-        self.status = status
-
-
-def refused(frame):
-    """That a node refuses."""
-    return Gone(3, f"the node refuses, code {frame.code}: {REFUSALS.get(frame.code, 'a code without a meaning')}")
-
-
-class Client:
-    """A connection to a node, which greeted."""
-
-    def __init__(self, address, timeout):
-        host, colon, port = address.rpartition(":")
-        if not colon or not port.isdecimal():
-            raise Gone(2, f"no address HOST:PORT: {address}")
-        try:
-            self.socket = socket.create_connection((host.strip("[]"), int(port)), timeout)
-        except (OSError, OverflowError) as fault:
-            raise Gone(1, f"can't connect to {address}: {fault}") from fault
-        self.frames = Frames()
-        self.come = []
-        self.hello = self.greeted()
-
-    def close(self):
-        self.socket.close()
-
-    def send(self, data):
-        """Sends bytes. Where the node shut the connection, what it sent before is still to be read."""
-        try:
-            self.socket.sendall(data)
-        except socket.timeout as fault:
-            raise Gone(1, "the node doesn't take what is sent in time") from fault
-        except OSError:
-            pass
-
-    def next_frame(self):
-        """The next frame that comes."""
-        while not self.come:
-            if self.frames.fault:
-                raise Gone(3, f"the node sent what is no frame, at byte {self.frames.place}: {self.frames.fault}")
-            try:
-                piece = self.socket.recv(1 << 16)
-            except socket.timeout as fault:
-                raise Gone(1, "nothing came in time") from fault
-            except OSError as fault:
-                raise Gone(1, f"the connection broke: {fault}") from fault
-            if not piece:
-                raise Gone(1, "the node shut the connection")
-            self.come = self.frames.feed(piece)
-        frame = self.come.pop(0)
-        if isinstance(frame, Refuse):
-            raise refused(frame)
-        return frame
-
-    def greeted(self):
-        """The greeting, with which a node begins."""
-        hello = self.next_frame()
-        if not isinstance(hello, Hello):
-            raise Gone(3, "the node doesn't begin with a greeting")
-        if hello.format != 1:
-            raise Gone(3, f"the node greets in format {hello.format}")
-        return hello
-
-    def ask(self, line):
-        """The reply to a line, whole."""
-        self.send(write_frame(Request(line)))
-        pieces = []
-        while True:
-            frame = self.next_frame()
-            if not isinstance(frame, Reply):
-                raise Gone(3, f"the node sent a {type(frame).__name__} where a reply is due")
-            pieces.append(frame.piece)
-            if frame.is_last:
-                return b"".join(pieces)

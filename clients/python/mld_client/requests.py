@@ -8,11 +8,25 @@ from __future__ import annotations
 import dataclasses
 import json
 import re
-from typing import Any, Generic, TypeVar, Union
+from typing import Any, Generic, Type, TypeVar, Union
 
-from . import faults
+from .faults import Asking, BadLine, GenerationsSpent, NotDone, NotInFormat, SingleValue, TicksSpent, TooMany
 
 Json = Union[None, bool, int, str, list[Any], dict[str, Any]]
+
+DOT = r"(r[01]{0,64})\.([1-9][0-9]{0,9})"
+DID = re.compile(rf"did {DOT}\n")
+PAIR = re.compile(rf"{DOT} (<.* \.)", re.DOTALL)
+KEPT = re.compile(r"kept (0|[1-9][0-9]*)\n")
+HAS = re.compile(r"has (0|[1-9][0-9]*)\n")
+SINGLE = re.compile(r"single <([^>\n]*)> <([^>\n]*)>\n")
+NOT_DONE: dict[str, Type[NotDone]] = {
+    "bad line\n": BadLine,
+    "asking\n": Asking,
+    "too many\n": TooMany,
+    "ticks spent\n": TicksSpent,
+    "generations spent\n": GenerationsSpent,
+}
 
 
 @dataclasses.dataclass(frozen=True, order=True)
@@ -36,7 +50,7 @@ class Tagged:
 
 @dataclasses.dataclass(frozen=True)
 class Did:
-    """`did DOT`: the operation of an update, which is on the device and was sent to every peer."""
+    """`did DOT`: the operation of an update. Its entry is on the device, and a node sent it to every peer."""
 
     dot: Dot
 
@@ -54,7 +68,7 @@ class Answer:
     """What a query answers: rows of a select, each with the values of its bound variables under their names, question mark included; or
     the subjects of a describe. Values are as `docs/FORMATS.md` says under "Subjects", "Written"."""
 
-    items: list[dict[str, Json]]
+    items: list[dict[str, Any]]
 
 
 @dataclasses.dataclass(frozen=True)
@@ -77,12 +91,12 @@ class Kept:
 
 @dataclasses.dataclass(frozen=True)
 class Sent:
-    """`sent`: every peer got a question for what the clone lacks."""
+    """`sent`: every peer gets a question for what the clone lacks."""
 
 
 @dataclasses.dataclass(frozen=True)
 class Stopped:
-    """`stopped`: the node ends."""
+    """`stopped`: the node ends; of a folder, the clone isn't live any more."""
 
 
 R = TypeVar("R")
@@ -95,31 +109,77 @@ class Request(Generic[R]):
         """The line that is sent, without a line end."""
         raise NotImplementedError
 
-    def reply(self, text: str) -> R:
-        """The reply that a text is, which has its line ends. Raises a `NotDone` where it says that nothing was done, and `NotInFormat`
-        where it is no reply to such a line."""
+    def read(self, text: str) -> R:
+        """The reply that a text is, which doesn't say that nothing was done. Raises `NotInFormat` where it is no reply to such a line."""
         raise NotImplementedError
+
+    def reply(self, text: str) -> R:
+        """The reply that a text is, line ends included. Raises a `NotDone` where it says that nothing was done, and `NotInFormat` where it
+        is no reply to such a line."""
+        if text in NOT_DONE:
+            raise NOT_DONE[text](self.line(), text.removesuffix("\n"))
+        single = SINGLE.fullmatch(text)
+        if single:
+            raise SingleValue(self.line(), text.removesuffix("\n"), single[1], single[2])
+        return self.read(text)
+
+    def unexpected(self, text: str) -> NotInFormat:
+        """That a text is no reply to this."""
+        return NotInFormat(f"a reply that belongs to no `{self.line()[:40]}`: {text[:200]!r}")
+
+    def matched(self, form: re.Pattern[str], text: str) -> re.Match[str]:
+        """A text in a form."""
+        match = form.fullmatch(text)
+        if match is None:
+            raise self.unexpected(text)
+        return match
+
+
+def json_text(value: Json) -> str:
+    """The text of a JSON value in one line; a text is taken as one already, in which a line end is white space."""
+    if isinstance(value, str):
+        return value.replace("\r", " ").replace("\n", " ")
+    return json.dumps(value, ensure_ascii=False, allow_nan=False, separators=(",", ":"))
+
+
+class Change(Request[Updated]):
+    """A request that makes an operation, or none."""
+
+    def read(self, text: str) -> Updated:
+        if text == "none\n":
+            return Unchanged()
+        path, tick = self.matched(DID, text).groups()
+        return Did(Dot(path, int(tick)))
 
 
 @dataclasses.dataclass(frozen=True)
-class Add(Request[Updated]):
+class Add(Change):
     """Inserts a triple, a text of N-Triples with its dot at the end: `<http://d/a> <http://d/#p> "x" .`."""
 
     triple: str
 
+    def line(self) -> str:
+        return f"add {self.triple}"
+
 
 @dataclasses.dataclass(frozen=True)
-class Remove(Request[Updated]):
-    """Deletes a triple, wherever it came from."""
+class Remove(Change):
+    """Deletes a triple, whichever operations inserted it."""
 
     triple: str
 
+    def line(self) -> str:
+        return f"remove {self.triple}"
+
 
 @dataclasses.dataclass(frozen=True)
-class Update(Request[Updated]):
+class Update(Change):
     """An update in the profile of `docs/FORMATS.md`, "Updates": a JSON value, or its text."""
 
     update: Json
+
+    def line(self) -> str:
+        return f"update {json_text(self.update)}"
 
 
 @dataclasses.dataclass(frozen=True)
@@ -128,36 +188,94 @@ class Query(Request[Answer]):
 
     query: Json
 
+    def line(self) -> str:
+        return f"query {json_text(self.query)}"
+
+    def read(self, text: str) -> Answer:
+        try:
+            items = json.loads(text) if text.startswith("[") else None
+        except ValueError:
+            items = None
+        if not isinstance(items, list) or not all(isinstance(item, dict) for item in items):
+            raise self.unexpected(text)
+        return Answer(items)
+
 
 @dataclasses.dataclass(frozen=True)
 class Show(Request[Shown]):
     """All pairs of the clone."""
 
+    def line(self) -> str:
+        return "show"
+
+    def read(self, text: str) -> Shown:
+        head, *lines = text.removesuffix("\n").split("\n")
+        count = self.matched(HAS, head + "\n")[1]
+        if len(lines) != int(count):
+            raise self.unexpected(text)
+        found = (self.matched(PAIR, line).groups() for line in lines)
+        return Shown([Tagged(Dot(path, int(tick)), triple) for path, tick, triple in found])
+
+
+class Keep(Request[Kept]):
+    """A request that writes the folder anew."""
+
+    def read(self, text: str) -> Kept:
+        return Kept(int(self.matched(KEPT, text)[1]))
+
 
 @dataclasses.dataclass(frozen=True)
-class Compact(Request[Kept]):
+class Compact(Keep):
     """Makes each run of neighbouring ranges of the journal one, and writes the folder anew."""
 
+    def line(self) -> str:
+        return "compact"
+
 
 @dataclasses.dataclass(frozen=True)
-class Truncate(Request[Kept]):
+class Truncate(Keep):
     """Leaves the last so many ranges of the journal, from 0 to 2^64 - 1; those before become a part of the base."""
 
     ranges: int
+
+    def line(self) -> str:
+        return f"truncate {self.ranges}"
 
 
 @dataclasses.dataclass(frozen=True)
 class Ask(Request[Sent]):
     """Has the node ask every peer for what its clone lacks."""
 
+    def line(self) -> str:
+        return "ask"
+
+    def read(self, text: str) -> Sent:
+        if text != "sent\n":
+            raise self.unexpected(text)
+        return Sent()
+
 
 @dataclasses.dataclass(frozen=True)
 class Halt(Request[Stopped]):
     """Ends the node."""
 
+    def line(self) -> str:
+        return "halt"
+
+    def read(self, text: str) -> Stopped:
+        if text != "stopped\n":
+            raise self.unexpected(text)
+        return Stopped()
+
 
 @dataclasses.dataclass(frozen=True)
 class Line(Request[str]):
-    """Any line, whose reply is its text as it came, line ends included, and no exception whatever it says."""
+    """Any line, whose reply is its text as it came, line ends included: no `NotDone` is raised, whatever it says."""
 
     text: str
+
+    def line(self) -> str:
+        return self.text
+
+    def reply(self, text: str) -> str:
+        return text
