@@ -7,11 +7,14 @@ A clock is a dict from paths to ticks, a path a text of `0` and `1`, a triple it
 """
 
 import collections
+import pathlib
 import re
 import struct
+import sys
 
-import mld_frames as frames
-from mld_frames import u32
+sys.path.insert(0, str(pathlib.Path(__file__).resolve().parent.parent / "clients" / "python"))
+from mld_client import frames
+from mld_client.frames import u32
 
 TICK_LIMIT = 2**32 - 1
 GENERATION_LIMIT = 2**64 - 1

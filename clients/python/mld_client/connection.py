@@ -52,6 +52,8 @@ class Connection:
         """Sends bytes as `send` does, and keeps the frames that come meanwhile: a node reads nothing more from one who leaves many replies
         unread. What comes behind a fault isn't read."""
         left = memoryview(data)
+        if not left:
+            return
         with selectors.DefaultSelector() as selector:
             selector.register(self.socket, selectors.EVENT_READ | selectors.EVENT_WRITE)
             while left:
