@@ -183,7 +183,7 @@ class Lost(unittest.TestCase):
 
         with Scripted(stay) as end, mld.Client(end.address, 0.3) as client:
             with self.assertRaises(mld.TimedOut):
-                client.send(*(mld.Line("x" * 1_000_000) for _ in range(64)))
+                client.send(*(mld.Line("x" * 1_000_000) for _ in range(24)))
             self.assertFalse(client.is_open)
             over.set()
 
@@ -235,7 +235,7 @@ class NoNode(unittest.TestCase):
 class FullPipes(unittest.TestCase):
     def test_replies_are_read_while_requests_are_sent(self):
         """An end that answers each request at length, and reads no other before that is taken, as a node does in the large."""
-        count, text = 60, "has 0\n" + "x" * 1_000_000
+        count, text = 30, "has 0\n" + "x" * 1_000_000
 
         def answer_at_length(connection):
             greet(connection)
