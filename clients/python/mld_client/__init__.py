@@ -1,9 +1,9 @@
-"""A client of an mld node, by the standard library alone. Nothing of it is proved.
+"""A client of an mld node, and of a clone in a folder, by the standard library alone. Nothing of it is proved.
 
-    from mld_client import Client
+    from mld_client import Client, Folder
 
-`Client` speaks to a node; `requests` has the requests and their replies as values, `faults` the exceptions, `frames` the bytes. What a node
-does is said in `docs/FORMATS.md`, "Node".
+`Client` speaks to a node, `Folder` to a shell over a folder. `requests` has what they are asked and reply as values, `faults` the exceptions,
+`frames` the bytes of a connection, `ntriples` triples as values. What a node and a shell do is said in `docs/FORMATS.md`.
 """
 
 from .client import Client
@@ -11,34 +11,45 @@ from .faults import (
     Asking,
     BadAddress,
     BadLine,
+    Closed,
+    Damaged,
     Fault,
     GenerationsSpent,
     Lost,
+    NoShell,
     NotDone,
+    NotEmpty,
     NotInFormat,
     Refused,
     RequestTooLong,
+    ShellEnded,
     SingleValue,
     TicksSpent,
     TimedOut,
     TooMany,
 )
+from .folder import Folder
 from .requests import (
     Add,
     Answer,
     Ask,
     Compact,
+    Create,
     Did,
     Dot,
+    Empty,
     Halt,
     Kept,
     Line,
+    Open,
+    Opened,
     Query,
     Remove,
     Request,
     Sent,
     Show,
     Shown,
+    Stop,
     Stopped,
     Tagged,
     Truncate,
@@ -46,5 +57,3 @@ from .requests import (
     Update,
     Updated,
 )
-
-__all__ = [name for name in dir() if not name.startswith("_") and name not in ("client", "faults", "requests", "frames")]

@@ -2,27 +2,24 @@
 
 from __future__ import annotations
 
-import collections
-import itertools
-from typing import Any, Iterable, Iterator, Optional, TypeVar, Union
+from typing import Any, Optional
 
 from . import frames
+from .calls import Calls
 from .connection import Connection
-from .faults import Fault, Lost, NotDone, NotInFormat, RequestTooLong
-from .requests import Add, Answer, Ask, Compact, Halt, Json, Kept, Line, Query, Remove, Request, Sent, Show, Shown, Stopped, Truncate, Update, Updated
-
-R = TypeVar("R")
+from .faults import Fault, Lost, NotInFormat, RequestTooLong
+from .requests import Ask, Halt, Request, Sent, Stopped
 
 
-def line_bytes(request: Request[Any]) -> bytes:
-    """The bytes of a request's line, which a frame can carry."""
+def request_frame(request: Request[Any]) -> bytes:
+    """The frame of a request, which can carry its line."""
     line = request.line().encode()
     if len(line) > frames.PAYLOAD_LIMIT:
         raise RequestTooLong(len(line))
-    return line
+    return frames.write_frame(frames.Request(line))
 
 
-class Client:
+class Client(Calls):
     """A client of the node at an address HOST:PORT.
 
     It is used by one thread at a time. As a context manager it shuts the connection at the end. Each wait for the node lasts `timeout`
@@ -31,13 +28,16 @@ class Client:
         with Client("127.0.0.1:7001") as node:
             node.update({"@id": "fred", "name": "Fred"})         # Did(Dot("r", 1))
             node.query({"@describe": "fred"}).items              # [{"@id": "fred", "name": "Fred"}]
+
+    `add`, `remove`, `update`, `query`, `show`, `compact`, `truncate`, `line`, `do` and `pipeline` are those of `Calls`. Where a call raises
+    `Lost`, `Refused` or `NotInFormat`, the connection is shut, and `open` opens it again.
     """
 
     def __init__(self, address: str, timeout: Optional[float] = 30.0) -> None:
         """Connects, and takes the node's greeting, as `open` does."""
+        super().__init__()
         self.address, self.timeout = address, timeout
         self._connection: Optional[Connection] = None
-        self._due: collections.deque[Request[Any]] = collections.deque()
         self._hello = self.open()
 
     def __enter__(self) -> Client:
@@ -56,11 +56,6 @@ class Client:
         """Whether there is a connection, as far as is known here."""
         return self._connection is not None
 
-    @property
-    def unanswered(self) -> int:
-        """How many requests were sent on this connection whose replies weren't taken yet."""
-        return len(self._due)
-
     def open(self) -> frames.Hello:
         """Opens a connection anew, and takes the node's greeting; one that is still there is shut before, and replies that weren't taken
         are dropped. Raises `BadAddress`, `Lost`, `TimedOut`, `Refused`, `NotInFormat`."""
@@ -76,63 +71,10 @@ class Client:
         if connection is not None:
             connection.close()
 
-    # ---- One request, and its reply. Each raises `NotDone` where the node says so, what `send` and `receive` raise, and `RuntimeError`
-    # while replies wait to be taken.
-
-    def do(self, request: Request[R]) -> R:
-        """Sends a request, and waits for its reply."""
-        self._nothing_due()
-        self.send(request)
-        return self.receive()
-
-    def add(self, triple: str) -> Updated:
-        """Inserts a triple, a text of N-Triples with its dot at the end."""
-        return self.do(Add(triple))
-
-    def remove(self, triple: str) -> Updated:
-        """Deletes a triple, a text of N-Triples with its dot at the end."""
-        return self.do(Remove(triple))
-
-    def update(self, update: Json) -> Updated:
-        """Makes an update, a JSON value or its text. Raises `SingleValue`, `TooMany`, `TicksSpent`, too."""
-        return self.do(Update(update))
-
-    def query(self, query: Json) -> Answer:
-        """Answers a query, a JSON value or its text. Raises `TooMany`, too."""
-        return self.do(Query(query))
-
-    def show(self) -> Shown:
-        """All pairs of the clone, in order."""
-        return self.do(Show())
-
-    def compact(self) -> Kept:
-        """Makes neighbouring ranges of the journal one. Raises `GenerationsSpent`, too."""
-        return self.do(Compact())
-
-    def truncate(self, ranges: int) -> Kept:
-        """Leaves the last so many ranges of the journal. Raises `GenerationsSpent`, too."""
-        return self.do(Truncate(ranges))
-
-    def ask(self) -> Sent:
-        """Has the node ask every peer for what its clone lacks."""
-        return self.do(Ask())
-
-    def halt(self) -> Stopped:
-        """Ends the node. The connection is shut then."""
-        stopped = self.do(Halt())
-        self.close()
-        return stopped
-
-    def line(self, text: str) -> str:
-        """Sends any line; the text of the reply as it came, line ends included, also where it says `bad line`."""
-        return self.do(Line(text))
-
-    # ---- Many requests in turn.
-
     def send(self, *given: Request[Any]) -> None:
         """Sends requests, and doesn't wait for their replies; what comes meanwhile is kept here. Raises `RequestTooLong` before anything is
         sent, and `Lost` where there is no connection or the node takes nothing. That a connection ended meanwhile is told by `receive`."""
-        data = b"".join(frames.write_frame(frames.Request(line_bytes(request))) for request in given)
+        data = b"".join(map(request_frame, given))
         connection = self._there()
         self._due.extend(given)
         try:
@@ -159,24 +101,15 @@ class Client:
         except NotInFormat as fault:
             raise self._ended(fault)
 
-    def pipeline(self, given: Iterable[Request[R]], window: int = 64) -> Iterator[Union[R, NotDone]]:
-        """The replies to so many requests, in their order, with at most `window` of them under way; a `NotDone` is given, not raised.
-        Requests are taken from `given` as they are sent."""
-        self._nothing_due()
-        rest = iter(given)
-        while True:
-            if len(self._due) <= window // 2:
-                self.send(*itertools.islice(rest, window - len(self._due)))
-            if not self._due:
-                return
-            try:
-                yield self.receive()
-            except NotDone as fault:
-                yield fault
+    def ask(self) -> Sent:
+        """Has the node ask every peer for what its clone lacks."""
+        return self.do(Ask())
 
-    def _nothing_due(self) -> None:
-        if self._due:
-            raise RuntimeError(f"{len(self._due)} replies wait to be taken")
+    def halt(self) -> Stopped:
+        """Ends the node. The connection is shut then."""
+        stopped = self.do(Halt())
+        self.close()
+        return stopped
 
     def _there(self) -> Connection:
         if self._connection is None:

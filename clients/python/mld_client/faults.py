@@ -14,9 +14,18 @@
         TooMany             there are more than 1,048,576 solutions
         TicksSpent          the clone's path has no tick left
         GenerationsSpent    the folder has no generation left
+        Closed              a shell has no clone that is live
+        NotEmpty            a shell is to make a clone where one is kept
+        Damaged             the folder of a shell has bytes that are no clone
+      ShellEnded            the shell ended, with a status
+        NoShell             the shell couldn't be started
 
-Behind `Lost`, `Refused` and `NotInFormat` the connection is shut; `Client.open` opens it again. Behind a `NotDone` it goes on.
+Behind `Lost`, `Refused` and `NotInFormat` the connection is shut; `open` opens it again. Behind a `NotDone` it goes on.
 """
+
+from __future__ import annotations
+
+from typing import Optional
 
 # What a node says by a frame that refuses, by its code.
 REFUSALS: dict[int, str] = {
@@ -126,3 +135,53 @@ class TicksSpent(NotDone):
 
 class GenerationsSpent(NotDone):
     """`generations spent`: what the folder keeps has the last generation, and can't be written anew."""
+
+
+class Closed(NotDone):
+    """`closed`: the shell has no clone that is live."""
+
+
+class NotEmpty(NotDone):
+    """`not empty`: the folder keeps a clone already."""
+
+
+class Damaged(NotDone):
+    """`damaged S P`: the bytes of side S, `a` or `b`, aren't as a clone writes them, from place P on."""
+
+    def __init__(self, line: str, reply: str, side: str, place: int) -> None:
+        super().__init__(line, reply)
+        self.side, self.place = side, place
+
+
+# Why a shell ends, by its exit status.
+ENDS: dict[int, str] = {
+    1: "its words name no folder",
+    2: "its input failed",
+    3: "its output failed",
+    5: "no memory",
+    6: "the folder or one of its files failed, as where the disk is full, the folder above isn't there, or another shell or node has it open",
+    7: "a line or the whole input is too long",
+}
+
+
+class ShellEnded(Fault):
+    """The shell ended with `returncode`, where a reply was due or at its end: `ENDS` says why.
+
+    `unanswered` is how many lines were given to it whose replies didn't come. All that it replied to before is in the folder; of the first
+    of those lines all or nothing is, and nothing of the others.
+    """
+
+    def __init__(self, returncode: Optional[int], unanswered: int = 0) -> None:
+        told = "" if returncode is None else f"with status {returncode}" if returncode >= 0 else f"by signal {-returncode}"
+        super().__init__(f"the shell ended {told}" + (f": {ENDS[returncode]}" if returncode in ENDS else ""))
+        self.returncode, self.unanswered = returncode, unanswered
+
+
+class NoShell(ShellEnded):
+    """The program of the shell couldn't be started."""
+
+    status = 2
+
+    def __init__(self, program: str, why: str) -> None:
+        Fault.__init__(self, f"can't start {program}: {why}")
+        self.returncode, self.unanswered = None, 0

@@ -1,6 +1,6 @@
-"""The requests of a node as values: the line of each, and its reply as a value.
+"""The requests of a node and the lines of a shell as values, each with its reply as a value.
 
-What a line does and replies is said in `docs/FORMATS.md`, "Requests" and "Replies of the shell".
+What a line does and replies is said in `docs/FORMATS.md`, "Requests", "Shell lines" and "Replies".
 """
 
 from __future__ import annotations
@@ -8,15 +8,17 @@ from __future__ import annotations
 import dataclasses
 import json
 import re
+import uuid
 from typing import Any, Generic, Type, TypeVar, Union
 
-from .faults import Asking, BadLine, GenerationsSpent, NotDone, NotInFormat, SingleValue, TicksSpent, TooMany
+from .faults import Asking, BadLine, Closed, Damaged, GenerationsSpent, NotDone, NotEmpty, NotInFormat, SingleValue, TicksSpent, TooMany
 
 Json = Union[None, bool, int, str, list[Any], dict[str, Any]]
 
-DOT = r"(r[01]{0,64})\.([1-9][0-9]{0,9})"
+DOT = r"(r[01]*)\.([1-9][0-9]*)"
 DID = re.compile(rf"did {DOT}\n")
 PAIR = re.compile(rf"{DOT} (<.* \.)", re.DOTALL)
+DAMAGED = re.compile(r"damaged ([ab]) (0|[1-9][0-9]*)\n")
 KEPT = re.compile(r"kept (0|[1-9][0-9]*)\n")
 HAS = re.compile(r"has (0|[1-9][0-9]*)\n")
 SINGLE = re.compile(r"single <([^>\n]*)> <([^>\n]*)>\n")
@@ -26,6 +28,8 @@ NOT_DONE: dict[str, Type[NotDone]] = {
     "too many\n": TooMany,
     "ticks spent\n": TicksSpent,
     "generations spent\n": GenerationsSpent,
+    "closed\n": Closed,
+    "not empty\n": NotEmpty,
 }
 
 
@@ -96,7 +100,17 @@ class Sent:
 
 @dataclasses.dataclass(frozen=True)
 class Stopped:
-    """`stopped`: the node ends; of a folder, the clone isn't live any more."""
+    """`stopped`: the node ends; or the shell's clone isn't live any more."""
+
+
+@dataclasses.dataclass(frozen=True)
+class Opened:
+    """`opened`, `live` or `created`: the shell's clone is live."""
+
+
+@dataclasses.dataclass(frozen=True)
+class Empty:
+    """`empty`: the folder keeps no clone."""
 
 
 R = TypeVar("R")
@@ -121,6 +135,9 @@ class Request(Generic[R]):
         single = SINGLE.fullmatch(text)
         if single:
             raise SingleValue(self.line(), text.removesuffix("\n"), single[1], single[2])
+        damaged = DAMAGED.fullmatch(text)
+        if damaged:
+            raise Damaged(self.line(), text.removesuffix("\n"), damaged[1], int(damaged[2]))
         return self.read(text)
 
     def unexpected(self, text: str) -> NotInFormat:
@@ -261,6 +278,50 @@ class Halt(Request[Stopped]):
 
     def line(self) -> str:
         return "halt"
+
+    def read(self, text: str) -> Stopped:
+        if text != "stopped\n":
+            raise self.unexpected(text)
+        return Stopped()
+
+
+@dataclasses.dataclass(frozen=True)
+class Open(Request[Union[Opened, Empty]]):
+    """Opens what the shell's folder keeps."""
+
+    def line(self) -> str:
+        return "open"
+
+    def read(self, text: str) -> Union[Opened, Empty]:
+        if text not in ("opened\n", "live\n", "empty\n"):
+            raise self.unexpected(text)
+        return Empty() if text == "empty\n" else Opened()
+
+
+@dataclasses.dataclass(frozen=True)
+class Create(Request[Opened]):
+    """Makes the first clone of a domain in the shell's folder, with an id that no other clone of the domain has, and its single-valued
+    properties, IRIs without brackets."""
+
+    id: uuid.UUID
+    domain: str
+    properties: tuple[str, ...] = ()
+
+    def line(self) -> str:
+        return " ".join(["create", str(self.id), self.domain, *(f"<{iri}>" for iri in self.properties)])
+
+    def read(self, text: str) -> Opened:
+        if text != "created\n":
+            raise self.unexpected(text)
+        return Opened()
+
+
+@dataclasses.dataclass(frozen=True)
+class Stop(Request[Stopped]):
+    """Closes the shell's clone; the folder keeps it."""
+
+    def line(self) -> str:
+        return "stop"
 
     def read(self, text: str) -> Stopped:
         if text != "stopped\n":
