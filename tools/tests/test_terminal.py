@@ -50,7 +50,7 @@ class Asking(unittest.TestCase):
         with Scripted(refuse, go, wait) as end:
             self.assertEqual(ask(end.address, "show"), (3, "", "mld_ask: the node refuses, code 6: out of order: a frame that doesn't stand here\n"))
             self.assertEqual(ask(end.address, "show"), (1, "", "mld_ask: the node shut the connection\n"))
-            self.assertEqual(ask("--timeout", "0.3", end.address, "show"), (1, "", "mld_ask: nothing came in time\n"))
+            self.assertEqual(ask("--timeout", "1.5", end.address, "show"), (1, "", "mld_ask: nothing came in time\n"))
 
 
 @unittest.skipUnless(places.is_built("mld_node"), "no built mld_node")

@@ -169,7 +169,7 @@ class Lost(unittest.TestCase):
             while connection.recv(1 << 16):
                 pass
 
-        with Scripted(wait) as end, mld.Client(end.address, 0.2) as client:
+        with Scripted(wait) as end, mld.Client(end.address, 1.5) as client:
             with self.assertRaises(mld.TimedOut) as caught:
                 client.show()
             self.assertEqual((caught.exception.unanswered, client.is_open), (1, False))
@@ -181,7 +181,7 @@ class Lost(unittest.TestCase):
             greet(connection)
             over.wait(WAIT)
 
-        with Scripted(stay) as end, mld.Client(end.address, 0.3) as client:
+        with Scripted(stay) as end, mld.Client(end.address, 1.5) as client:
             with self.assertRaises(mld.TimedOut):
                 client.send(*(mld.Line("x" * 1_000_000) for _ in range(24)))
             self.assertFalse(client.is_open)
