@@ -1,9 +1,11 @@
 """The grammar of N-Triples, by the examples of https://www.w3.org/TR/n-triples/ and by tests of the W3C's suite for it, which are named as
 there; what a clone takes of it, and the written form, by `docs/FORMATS.md`, "Triples"."""
 
+import random
 import unittest
 
 import places  # noqa: F401
+import node_model
 from mld_client.ntriples import LANG_STRING, XSD_STRING, Blank, Iri, Literal, NoTriple, Triple, read_line, refusal, written_triple
 
 XSD = "http://www.w3.org/2001/XMLSchema#"
@@ -217,6 +219,44 @@ class Profile(unittest.TestCase):
             (f'<http://d/a> <http://d/#p> "x"^^<{XSD}byte> .', f'<http://d/a> <http://d/#p> "x"^^<{XSD}byte> .'),
         ):
             self.assertEqual(written_triple(read_line(text)), written)
+
+
+class BesideTheModel(unittest.TestCase):
+    """Lines that are changed at random, beside the reading of triples in `tools/node_model.py`, which was written from the formats."""
+
+    LINES = (
+        '<http://d/a> <http://d/#p> "x" .',
+        r'<http://d/\u00e9>\t<a:b><urn:x:\U0001F600> .',
+        r'<http://d/a> <http://d/#p> "\t\"\\\u0041\UFFFFFFFF\ud800" .',
+        '<http://d/a> <http://d/#p> "é"@en-GB1 .',
+        '<http://d/a> <http://d/#p> "1"^^<http://www.w3.org/2001/XMLSchema#integer> .',
+        '<http://d/a> <http://d/#p> "1"^^<http://www.w3.org/1999/02/22-rdf-syntax-ns#langString> .',
+    )
+    PIECES = ("<", ">", '"', "\\", ".", " ", "\t", "@", "^^", "-", ":", "a", "1", "\\u0041", "\\u0020", "\\n", "é", "\n", "\r", "{", "\x00", "/")
+
+    def changed(self, chance):
+        """A line in which up to three places were changed."""
+        line = chance.choice(self.LINES)
+        for _ in range(chance.randrange(4)):
+            at = chance.randrange(len(line) + 1)
+            line = line[:at] + chance.choice(self.PIECES + ("",)) + line[at + chance.randrange(3) :]
+        return line
+
+    def test_the_same_lines_are_triples(self):
+        chance, both = random.Random(7), [0, 0]
+        for _ in range(20_000):
+            line = self.changed(chance)
+            if "#" in line.partition(" .")[2] or "_:" in line:
+                continue
+            try:
+                triple = read_line(line)
+                written = None if triple is None or refusal(triple) else written_triple(triple)
+            except NoTriple as fault:
+                self.assertTrue(1 <= fault.column <= len(line) + 1, f"{line!r}: {fault}")
+                written = None
+            self.assertEqual(written, node_model.read_triple(line), line)
+            both[written is None] += 1
+        self.assertGreater(min(both), 2000)
 
 
 if __name__ == "__main__":
