@@ -36,12 +36,18 @@ const node = (number) => state[`node ${number}`];
 const link = (one, other) => state[`link ${Math.min(one, other)} ${Math.max(one, other)}`];
 const plural = (count, word) => `${count} ${word}${count === 1 ? "" : "s"}`;
 const listed = (numbers) => (numbers.length > 1 ? "nodes " : "node ") + numbers.join(" and ");
+const isDown = (number) => ["killed", "ended"].includes(node(number).state);
 const total = (known) => Object.values(known).reduce((sum, tick) => sum + tick, 0);
 
 async function post(path, what) {
   const answer = await fetch(path, { method: "POST", headers: { "Content-Type": "application/json" }, body: JSON.stringify(what) });
   if (!answer.ok) throw new Error(await answer.text());
   return answer.json();
+}
+
+function tellAway() {
+  document.body.classList.add("away");
+  document.getElementById("summary").textContent = "The playground doesn't answer. Is it still running?";
 }
 
 // ---- What is typed
@@ -160,7 +166,7 @@ function drawKnown(column, { known }) {
 const STATES = { starting: "starting", live: "running", asks: "asks for a leaf", killed: "killed", ended: "ended" };
 
 function drawHead(column, { state: now, status }) {
-  const isUp = now === "live" || now === "asks" || now === "starting";
+  const isUp = !isDown(column.number);
   column.section.dataset.state = now;
   column.state.textContent = STATES[now] + (now === "ended" && status !== null ? `, status ${status}` : "");
   column.power.textContent = isUp ? "Kill" : "Start";
@@ -171,9 +177,8 @@ function drawHead(column, { state: now, status }) {
 function drawLinks(column) {
   for (const [other, row] of Object.entries(column.links)) {
     const { is_cut: isCut, is_there: isThere } = link(column.number, other);
-    const isDown = !isThere && !isCut;
     row.line.dataset.state = isCut ? "cut" : isThere ? "there" : "waits";
-    row.text.textContent = isCut ? "cut" : isDown ? "waits" : "connected";
+    row.text.textContent = isCut ? "cut" : isThere ? "connected" : "waits";
     row.button.textContent = isCut ? "Heal" : "Cut";
     row.button.setAttribute("aria-label", `${isCut ? "Heal" : "Cut"} the link between node ${column.number} and node ${other}`);
   }
@@ -211,16 +216,15 @@ function drawGroups() {
     section.classList.toggle("joined", place >= 0 && place === of(number + 1));
     section.classList.toggle("joins", place >= 0 && place === of(number - 1));
     const isAlone = place >= 0 && found.flat().length === 1;
-    const { state: now, graph } = node(number);
-    const isDown = ["killed", "ended"].includes(now) && graph !== null;
-    same.textContent = isDown ? "As it was seen last" : place < 0 ? "" : isAlone ? "No other node runs" : sameText(number, found[place], all);
+    const isPast = isDown(number) && node(number).graph !== null;
+    same.textContent = isPast ? "As it was seen last" : place < 0 ? "" : isAlone ? "No other node runs" : sameText(number, found[place], all);
   }
   tellSummary(found, all);
   drawNet(of);
 }
 
 function tellSummary(found, all) {
-  const down = NUMBERS.filter((it) => ["killed", "ended"].includes(node(it).state));
+  const down = NUMBERS.filter(isDown);
   const waiting = NUMBERS.filter((it) => ["starting", "asks"].includes(node(it).state));
   const same = found.filter((it) => it.length > 1);
   const parts = [];
@@ -278,7 +282,7 @@ function linkRow(number, other) {
   button.type = "button";
   button.addEventListener("click", () => {
     const ends = [Math.min(number, other), Math.max(number, other)];
-    post("link", { ends, cut: !link(number, other).is_cut });
+    post("link", { ends, cut: !link(number, other).is_cut }).catch(tellAway);
   });
   name.append(text);
   line.append(element("span", "light"), name, button);
@@ -329,7 +333,7 @@ function makeColumn(number) {
   column.subjects.setAttribute("aria-label", `Graph of node ${number}`);
   column.replies.setAttribute("aria-label", `Replies of node ${number}`);
   column.power.addEventListener("click", () => {
-    post("power", { node: number, on: ["killed", "ended"].includes(node(number).state) });
+    post("power", { node: number, on: isDown(number) }).catch(tellAway);
   });
   for (const other of NUMBERS.filter((it) => it !== number)) {
     column.links[other] = linkRow(number, other);
@@ -349,10 +353,7 @@ function listen() {
     Object.assign(state, news);
     draw();
   };
-  events.onerror = () => {
-    document.body.classList.add("away");
-    document.getElementById("summary").textContent = "The playground doesn't answer. Is it still running?";
-  };
+  events.onerror = tellAway;
 }
 
 document.getElementById("columns").append(...NUMBERS.map(makeColumn));
