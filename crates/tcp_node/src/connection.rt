@@ -116,16 +116,16 @@ impl Connection {
     }
 
     /// Of which kind it is among those that wait for their turn. One that was called is taken to ask for little, and
-    /// one whose frame is long for much.
+    /// one whose frame is long for much. One that was broken off asks for nothing.
     pub(crate) fn kind(&self) -> Kind {
         if self.called {
             Kind::Little
-        } else if self.framing.is_blank() {
+        } else if self.is_broken() || self.framing.is_blank() {
             Kind::New
         } else if !self.framing.is_short() {
             Kind::Much
         } else if !self.framing.has_begun() {
-            Kind::Modest
+            Kind::First
         } else {
             Kind::of_cost(self.cost)
         }

@@ -4,7 +4,7 @@
 pub(crate) const PLACES: usize = 1_024;
 
 /// How many bytes all connections may hold together, but for the longest piece that is being sent.
-pub(crate) const HELD_LIMIT: usize = 268_435_456;
+pub(crate) const HELD_LIMIT: usize = 167_772_160;
 
 /// How many bytes more may be held before it is looked whether that is too much.
 pub(crate) const GROWTH: usize = 1_048_576;

@@ -28,7 +28,9 @@ pub enum Kind {
     Little,
     /// Not heard of yet, or nothing that asks.
     New,
-    /// Known to ask for more, or about to ask for the first time.
+    /// About to ask for the first time.
+    First,
+    /// Known to ask for more.
     Modest,
     /// Known to ask for much.
     Much,
@@ -48,7 +50,13 @@ impl Kind {
 }
 
 /// All kinds.
-const KINDS: &[Kind] = &[Kind::Little, Kind::New, Kind::Modest, Kind::Much];
+const KINDS: &[Kind] = &[
+    Kind::Little,
+    Kind::New,
+    Kind::First,
+    Kind::Modest,
+    Kind::Much,
+];
 
 /// What waits of one kind, in the order in which it came.
 #[derive(Drop)]
@@ -102,6 +110,7 @@ impl Line {
 pub struct Turns {
     little: Line,
     new: Line,
+    first: Line,
     modest: Line,
     much: Line,
     /// How much a kind had used whose turn it was. Less is nobody's due.
@@ -120,6 +129,7 @@ impl Turns {
         Turns {
             little: Line::new(alloc),
             new: Line::new(alloc),
+            first: Line::new(alloc),
             modest: Line::new(alloc),
             much: Line::new(alloc),
             reached: 0,
@@ -141,17 +151,11 @@ impl Turns {
 
     /// How many wait.
     pub fn len(&self) -> usize {
-        let known = self
-            .little
-            .waiting
-            .len()
-            .saturating_add(self.modest.waiting.len());
-        let others = self
-            .new
-            .waiting
-            .len()
-            .saturating_add(self.much.waiting.len());
-        known.saturating_add(others)
+        let mut count = 0usize;
+        for kind in KINDS {
+            count = count.saturating_add(self.line(*kind).waiting.len());
+        }
+        count
     }
 
     /// Whether nothing waits.
@@ -229,6 +233,7 @@ impl Turns {
         match kind {
             Kind::Little => &self.little,
             Kind::New => &self.new,
+            Kind::First => &self.first,
             Kind::Modest => &self.modest,
             Kind::Much => &self.much,
         }
@@ -238,6 +243,7 @@ impl Turns {
         match kind {
             Kind::Little => &mut self.little,
             Kind::New => &mut self.new,
+            Kind::First => &mut self.first,
             Kind::Modest => &mut self.modest,
             Kind::Much => &mut self.much,
         }
