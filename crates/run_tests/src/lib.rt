@@ -1,5 +1,5 @@
-//! Tests of runs, through public calls: what ends them, what they tell of their world, and what they leave on banks; of the shell on
-//! banks that fail; and of the wire over sockets. They stand in a crate of their own, so that what they test isn't proved a second time with them.
+//! Tests of runs, through public calls: what ends them, what they tell of their world, and what they leave on banks; and of the wire
+//! over sockets. They stand in a crate of their own, so that what they test isn't proved a second time with them.
 #![tactic(auto)]
 
 #[cfg(test)]
@@ -10,10 +10,6 @@ mod generated;
 mod replays;
 #[cfg(test)]
 mod runs;
-#[cfg(test)]
-mod shell_banks;
-#[cfg(test)]
-mod shell_given;
 #[cfg(test)]
 mod sockets;
 #[cfg(test)]

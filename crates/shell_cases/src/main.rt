@@ -4,6 +4,10 @@
 mod restarts;
 mod runs;
 mod settings;
+#[cfg(test)]
+mod shell_banks;
+#[cfg(test)]
+mod shell_given;
 
 use restarts::{RESTART, may_restart};
 use runs::does;
