@@ -1,0 +1,12 @@
+pub mod KeptLists
+pub mod ClockEnds
+pub mod KeptReady
+pub mod PastMeanings
+pub mod PastSteps
+pub mod TakingLaws
+pub mod PastLaws
+pub mod UndoPlans
+pub mod Restoring
+pub mod UndoLaws
+pub mod TellingLaws
+pub mod OneAnswers

@@ -1,0 +1,5 @@
+pub mod KeptMembers
+pub mod PastParts
+pub mod PastStates
+pub mod UndoParts
+pub mod Undoing
