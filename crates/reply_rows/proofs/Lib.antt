@@ -1,0 +1,5 @@
+pub mod Filtered
+pub mod Risen
+pub mod RowLaws
+pub mod SearchLaws
+pub mod MergingLaws
