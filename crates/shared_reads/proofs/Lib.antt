@@ -1,0 +1,4 @@
+pub mod Adding
+pub mod AnswerKinds
+pub mod ChangeLaws
+pub mod FrontLaws
