@@ -1,0 +1,2 @@
+pub mod DotTexts
+pub mod ClockTexts
