@@ -7,6 +7,7 @@ from __future__ import annotations
 
 import json
 import pathlib
+import re
 import sys
 import uuid
 
@@ -91,11 +92,13 @@ class Shell:
 
     def begin(self, word: str, rest: str) -> str:
         """`open` and `create`."""
+        id, domain, *properties = (rest + " d" * (word == "open")).split(" ")
+        if not re.fullmatch(r"[a-z0-9.-]{1,200}", domain):
+            return "bad line"
         if self.clone is not None:
             return "live"
         kept = self.mounted()
         if word == "create" and kept is None:
-            id, domain, *properties = rest.split(" ")
             self.clone = model.genesis(model.Banks(), uuid.UUID(id).bytes, domain, [it[1:-1] for it in properties])
             return "created"
         self.clone = kept if word == "open" else None

@@ -217,6 +217,8 @@ class FolderCases(Cases):
         made = "--create", "d", "--id", "00000000-0000-4000-8000-000000000007", "--single", "http://d/#p", "--single", "http://d/#q"
         self.assertEqual(run("load", *words, *made, given)[:2], (0, "1 triples by 1 updates, 0 lines refused\n"))
         self.assertEqual(run("load", *words, *made, given)[0], 1)
+        status, text, told = run("load", "--folder", self.above / "other", "--program", self.program, "--create", "D", given)
+        self.assertRegex(told, r"^load: bad line: create [-0-9a-f]{36} D\n$")
         self.assertEqual(run("load", *words, self.file(triple("a", '"y"', "http://d/#q")))[0], 4)
         self.assertEqual(run("dump", *words)[:2], (0, triple("a", '"x"', "http://d/#q")))
 
@@ -239,8 +241,11 @@ class NodeCases(Cases):
         self.assertEqual(run("dump", "--node", "127.0.0.1:1")[0], 1)
 
 
-class ByTheModel(FolderCases, unittest.TestCase):
-    program = pathlib.Path(modelled.__file__)
+# What is said of the built programs is said of the model alone where they aren't there: it has nothing to add, and takes its time.
+if not places.is_built("mld_shell"):
+
+    class ByTheModel(FolderCases, unittest.TestCase):
+        program = pathlib.Path(modelled.__file__)
 
 
 @unittest.skipUnless(places.is_built("mld_shell"), "no built mld_shell")
@@ -255,18 +260,32 @@ class ByTheBuiltShell(FolderCases, LongCases, unittest.TestCase):
         self.assertEqual(self.dumped(), text)
 
 
-class ByANodeOfTheModel(NodeCases, unittest.TestCase):
+def modelled_node(asks=False):
+    """A node by the model, of the domain `d`."""
+    banks = modelled.model.Banks()
+    clone = None if asks else modelled.model.genesis(banks, served.ID, "d", ("http://d/#one",))
+    return served.Served(modelled.Node(clone, banks, served.ID, "d", ("http://d/#one",)))
+
+
+if not places.is_built("mld_node"):
+
+    class ByANodeOfTheModel(NodeCases, unittest.TestCase):
+        def setUp(self):
+            super().setUp()
+            self.address = self.enterContext(modelled_node()).address
+
+
+class NodesThatDoNotTakeAll(unittest.TestCase):
+    """Nodes that have no clone, or go away."""
+
     def setUp(self):
-        super().setUp()
-        banks = modelled.model.Banks()
-        clone = modelled.model.genesis(banks, served.ID, "d", ("http://d/#one",))
-        self.address = self.enterContext(served.Served(modelled.Node(clone, banks, served.ID, "d", clone.props))).address
+        self.name = pathlib.Path(self.enterContext(tempfile.TemporaryDirectory())) / "given.nt"
+        self.name.write_text("# three lines without a triple\n\n\n" + "".join(triple(name, '"x"') for name in "abcdefgh"))
 
     def test_a_node_that_asks(self):
-        node = modelled.Node(None, modelled.model.Banks(), served.ID, "d", ())
-        with served.Served(node) as end:
-            status, text, told = run("load", "--node", end.address, self.file(triple("a", '"x"')))
-            self.assertEqual((status, text, told), (1, "", f"load: asking; {self.above / 'given.nt'} is in up to line 0\n"))
+        with modelled_node(asks=True) as end:
+            status, text, told = run("load", "--node", end.address, self.name)
+        self.assertEqual((status, text, told), (1, "", f"load: asking; {self.name} is in up to line 3\n"))
 
     def test_a_node_that_goes_away(self):
         """The line up to which all is in is told, and `--behind` goes on there."""
@@ -278,12 +297,12 @@ class ByANodeOfTheModel(NodeCases, unittest.TestCase):
             served.take(connection, 1)
             served.reply(connection, "did r.2\n")
 
-        text = "# three lines without a triple\n\n\n" + "".join(triple(name, '"x"') for name in "abcdefgh")
         with served.Scripted(answer_two) as end:
-            status, _, told = run("load", "--node", end.address, "--triples", 2, self.file(text))
-        self.assertEqual((status, told.split("; ")[1]), (1, f"{self.above / 'given.nt'} is in up to line 7\n"))
-        self.assertEqual(self.load(text, "--behind", 7)[0], 0)
-        self.assertEqual(self.dumped(), "".join(triple(name, '"x"') for name in "efgh"))
+            status, _, told = run("load", "--node", end.address, "--triples", 2, self.name)
+        self.assertEqual((status, told.split("; ")[1]), (1, f"{self.name} is in up to line 7\n"))
+        with modelled_node() as end:
+            self.assertEqual(run("load", "--node", end.address, "--behind", 7, self.name)[0], 0)
+            self.assertEqual(run("dump", "--node", end.address)[1], "".join(triple(name, '"x"') for name in "efgh"))
 
 
 @unittest.skipUnless(places.is_built("mld_node"), "no built mld_node")

@@ -6,6 +6,8 @@ import unittest
 
 import places
 import mld_client as mld
+from mld_client import frames
+from mld_client.connection import Connection
 from running import RunningNode, until_done
 
 FRED = '<http://d/fred> <http://d/#name> "Fred" .'
@@ -113,10 +115,8 @@ class BesideABuiltNode(unittest.TestCase):
 
     def test_a_refusal(self):
         """A node refuses a part of a message from who didn't greet, by code 6."""
-        from mld_client import frames
-        from mld_client.connection import Connection
-
-        connection = until_done(lambda: Connection(self.node("one", 1).address), mld.Lost)
+        node = self.node("one", 1)
+        connection = until_done(lambda: Connection(node.address), mld.Lost)
         connection.send(frames.write_parts(0, b"x"))
         with self.assertRaises(mld.Refused) as caught:
             connection.next_frame()
